@@ -1,0 +1,11 @@
+pub mod Parts
+pub mod Cuts
+pub mod Chars
+pub mod Loops
+pub mod Numbers
+pub mod Dates
+pub mod Digests
+pub mod Names
+pub mod Lists
+pub mod Repeats
+pub mod Lengths

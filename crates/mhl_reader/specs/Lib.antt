@@ -1,0 +1,3 @@
+pub mod ListText
+pub mod Taking
+pub mod Reading

@@ -1,0 +1,3 @@
+pub mod PlaceLemmas
+pub mod Texts
+pub mod Moments

@@ -1,0 +1,4 @@
+pub mod Places
+pub mod Path
+pub mod Note
+pub mod Moment

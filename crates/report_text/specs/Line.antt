@@ -1,0 +1,63 @@
+-- The text of each line that the station says, without its line feed: docs/FORMATS.md, "Lines".
+use Rattle.std.specs.Prelude.{ℕ, ◌≤◌, ◌++◌, List, [], ◌∷◌, length, codes, decimal}
+use Rattle.hex.specs.Hex.{encode_lower}
+use Rattle.report_text.specs.declared.line.Line.{Line}
+use Rattle.report_text.specs.declared.line.Line.TheVariants.{Missing, Unchecked, Unlisted, AlteredSize, AlteredMd5, Verdict, RefusedWords, FailedAttachDrive, FailedDrive, UnreadableAbsent, UnreadableToolarge, UnreadableNotyet, Memory}
+
+-- the fields of a line, with one space (32) between each two
+abbrev pub fields : List ℕ → List (List ℕ) → List ℕ
+fields first [] = first
+fields first (field ∷ more) = fields (first ++ 32 ∷ field) more
+
+-- The text of each form: a path is last, numbers are decimal, digests are in lower case digits.
+abbrev pub missing_text : List ℕ → List ℕ
+missing_text path = fields (codes "missing") (path ∷ [])
+
+abbrev pub unchecked_text : List ℕ → List ℕ
+unchecked_text path = fields (codes "unchecked") (path ∷ [])
+
+abbrev pub unlisted_text : List ℕ → List ℕ
+unlisted_text path = fields (codes "unlisted") (path ∷ [])
+
+abbrev pub altered_size_text : ℕ → ℕ → List ℕ → List ℕ
+altered_size_text listed found path = fields (codes "altered size") (decimal listed ∷ decimal found ∷ path ∷ [])
+
+abbrev pub altered_md5_text : List ℕ → List ℕ → List ℕ → List ℕ
+altered_md5_text listed found path = fields (codes "altered md5") (encode_lower listed ∷ encode_lower found ∷ path ∷ [])
+
+abbrev pub verdict_text : List ℕ → ℕ → ℕ → ℕ → ℕ → ℕ → List ℕ
+verdict_text word entries missing altered unchecked unlisted =
+    fields (codes "verdict") (word ∷ decimal entries ∷ codes "entries" ∷ decimal missing ∷ codes "missing" ∷ decimal altered ∷ codes "altered"
+    ∷ decimal unchecked ∷ codes "unchecked" ∷ decimal unlisted ∷ codes "unlisted" ∷ [])
+
+abbrev pub failed_attach_drive_text : ℕ → List ℕ
+failed_attach_drive_text d = fields (codes "failed attach drive") (decimal d ∷ [])
+
+abbrev pub unreadable_toolarge_text : ℕ → List ℕ
+unreadable_toolarge_text len = fields (codes "unreadable toolarge") (decimal len ∷ [])
+
+-- the text of a line
+abbrev pub line_text : Line → List ℕ
+line_text (Missing path) = missing_text path.now
+line_text (Unchecked path) = unchecked_text path.now
+line_text (Unlisted path) = unlisted_text path.now
+line_text (AlteredSize listed found path) = altered_size_text listed found path.now
+line_text (AlteredMd5 listed found path) = altered_md5_text listed found path.now
+line_text (Verdict word entries missing altered unchecked unlisted) = verdict_text word.now entries missing altered unchecked unlisted
+line_text RefusedWords = codes "refused words"
+line_text (FailedAttachDrive d) = failed_attach_drive_text d
+line_text FailedDrive = codes "failed drive"
+line_text UnreadableAbsent = codes "unreadable absent"
+line_text (UnreadableToolarge len) = unreadable_toolarge_text len
+line_text UnreadableNotyet = codes "unreadable notyet"
+line_text Memory = codes "memory"
+
+-- each text in the line has at most 1,024 bytes
+abbrev pub IsShort : Line → Type 0
+IsShort (Missing path) = length path.now ≤ 1024
+IsShort (Unchecked path) = length path.now ≤ 1024
+IsShort (Unlisted path) = length path.now ≤ 1024
+IsShort (AlteredSize listed found path) = length path.now ≤ 1024
+IsShort (AlteredMd5 listed found path) = length path.now ≤ 1024
+IsShort (Verdict word entries missing altered unchecked unlisted) = length word.now ≤ 1024
+IsShort _ = Unit {0}

@@ -1,0 +1,130 @@
+//! A run of the station, from its words to its status.
+ghost use Rattle.std.specs.Prelude.{◌≡◌, ◌<◌, ◌-◌, ◌^◌};
+ghost use Rattle.report_text.specs.Line.{line_text, IsShort};
+ghost use Rattle.station_cli.specs.Story.{LastLine, Ended, memory_end, load_end, verify_end, outcome_status, RanOn, RanVerify, Ran};
+
+use crate::words::{WordList, WordsError, read_words};
+use bay_core::Bay;
+use path_text::{PathText, Scratch};
+use report_text::{Line, line_into, memory_line};
+use std::alloc::Global;
+use verify_run::{LoadError, Outcome, VerifyError, load_list, verify};
+
+// Says the last line of a run, and answers its status, or 5 where the line could not be said.
+fn end<B: Bay>(bay: &mut B, scratch: &mut Scratch, line: &Line<'_>, status: u8) -> u8
+    requires { IsShort line.now }
+    ensures { Ended (LastLine (line_text line.now) status) result (B.world bay.old) (B.world bay.new) }
+{
+    line_into(line, scratch);
+    match bay.say(scratch.bytes()) {
+        Ok(()) => status,
+        Err(_) => 5,
+    }
+}
+
+/// Says that memory was wanting, and answers status 9, or 5 where the line could not be said.
+pub fn say_memory<B: Bay>(bay: &mut B) -> u8
+    ensures { Ended memory_end result (B.world bay.old) (B.world bay.new) }
+{
+    match bay.say(memory_line()) {
+        Ok(()) => 9,
+        Err(_) => 5,
+    }
+}
+
+// The status of a verdict.
+fn status_of(outcome: Outcome) -> u8
+    ensures { result ≡ outcome_status outcome }
+{
+    match outcome {
+        Outcome::AllGood => 0,
+        Outcome::SomeBad => 1,
+        Outcome::SomeUnchecked => 6,
+    }
+}
+
+// Ends a run whose list was not loaded.
+fn end_unloaded<B: Bay>(bay: &mut B, scratch: &mut Scratch, error: LoadError) -> u8
+    ensures { Ended (load_end error) result (B.world bay.old) (B.world bay.new) }
+{
+    match error {
+        LoadError::DriveFailed => end(bay, scratch, &Line::FailedDrive, 8),
+        LoadError::Absent => end(bay, scratch, &Line::UnreadableAbsent, 7),
+        LoadError::TooLarge { len } => end(bay, scratch, &Line::UnreadableToolarge(len), 7),
+        LoadError::Unreadable(_) => end(bay, scratch, &Line::UnreadableNotyet, 7),
+        LoadError::Memory => end(bay, scratch, &Line::Memory, 9),
+    }
+}
+
+// Ends a run whose verification broke off.
+fn end_unverified<B: Bay>(bay: &mut B, scratch: &mut Scratch, error: VerifyError) -> u8
+    ensures { Ended (verify_end error) result (B.world bay.old) (B.world bay.new) }
+{
+    match error {
+        VerifyError::DriveFailed => end(bay, scratch, &Line::FailedDrive, 8),
+        VerifyError::OutFailed => 5,
+        VerifyError::Memory => end(bay, scratch, &Line::Memory, 9),
+    }
+}
+
+// Loads the list of an attached drive, and verifies the drive.
+fn verify_attached<B: Bay>(
+    alloc: Global,
+    bay: &mut B,
+    scratch: &mut Scratch,
+    d: u32,
+    list: &PathText,
+) -> u8
+    requires { d < (B.world bay.old).attached.drives }
+    ensures { RanOn d list.now result (B.world bay.old) (B.world bay.new) }
+{
+    let hashes = match load_list(alloc, bay, d, list) {
+        Ok(hashes) => hashes,
+        Err(e) => return end_unloaded(bay, scratch, e),
+    };
+    match verify(alloc, bay, d, &hashes, list) {
+        Ok(verdict) => status_of(verdict.outcome()),
+        Err(e) => end_unverified(bay, scratch, e),
+    }
+}
+
+// `verify LIST DRIVE`.
+fn run_verify<B: Bay>(
+    alloc: Global,
+    bay: &mut B,
+    scratch: &mut Scratch,
+    list: &PathText,
+    place: &str,
+) -> u8
+    requires { (B.world bay.old).attached.drives < 2 ^ 32 - 1 }
+    ensures { RanVerify list.now place.now result (B.world bay.old) (B.world bay.new) }
+{
+    match bay.attach_drive(place) {
+        Ok(d) => verify_attached(alloc, bay, scratch, d, list),
+        Err(_) => end(bay, scratch, &Line::FailedAttachDrive(0), 4),
+    }
+}
+
+/// Does what the words ask for, and answers the status (docs/OPERATING.md).
+pub fn run_command<B: Bay>(alloc: Global, bay: &mut B, words: &WordList) -> u8
+    requires { (B.world bay.old).attached.drives < 2 ^ 32 - 1 }
+    ensures { Ran words.now result (B.world bay.old) (B.world bay.new) }
+{
+    let mut scratch = match Scratch::new(alloc) {
+        Ok(scratch) => scratch,
+        Err(_) => return say_memory(bay),
+    };
+    match read_words(alloc, words) {
+        Ok(command) => run_verify(alloc, bay, &mut scratch, command.list(), words.word(2)),
+        Err(WordsError::Words) => end(bay, &mut scratch, &Line::RefusedWords, 2),
+        Err(WordsError::Memory) => say_memory(bay),
+    }
+}
+
+/// The station: everything that the program does with its words, over any bay.
+pub fn station<B: Bay>(alloc: Global, bay: &mut B, words: &WordList) -> u8
+    requires { (B.world bay.old).attached.drives < 2 ^ 32 - 1 }
+    ensures { Ran words.now result (B.world bay.old) (B.world bay.new) }
+{
+    run_command(alloc, bay, words)
+}

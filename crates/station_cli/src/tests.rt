@@ -1,0 +1,185 @@
+ghost use Rattle.std.specs.Prelude.{◌≡◌, IfOk};
+ghost use Rattle.bay_core.specs.State.{world_of};
+
+use crate::run::station;
+use crate::words::WordList;
+use bay_core::{DriveGot, Event, MemBay, MemMap};
+use std::alloc::{AllocError, Global};
+use std::test::Fail;
+
+// A list with one entry: a.mov, the bytes `abc`. The digest is of RFC 1321.
+const LIST: &str = "<?xml version=\"1.0\" encoding=\"UTF-8\"?>
+<hashlist version=\"1.1\">
+  <creatorinfo>
+    <name>A001</name>
+    <username>ana</username>
+    <hostname>cart1</hostname>
+    <tool>mhlstation 1</tool>
+    <startdate>2014-10-24T12:00:00Z</startdate>
+    <finishdate>2014-10-24T12:00:01Z</finishdate>
+  </creatorinfo>
+  <hash>
+    <file>a.mov</file>
+    <size>3</size>
+    <lastmodificationdate>2014-10-24T00:00:00Z</lastmodificationdate>
+    <md5>900150983cd24fb0d6963f7d28e17f72</md5>
+    <hashdate>2014-10-24T12:00:00Z</hashdate>
+  </hash>
+</hashlist>
+";
+
+const GOOD: &str = "verdict good 1 entries 0 missing 0 altered 0 unchecked 0 unlisted\n";
+
+// A bay that has these files at the place D.
+fn bay_with(alloc: Global, files: &[(&str, &str)]) -> Result<MemBay, AllocError>
+    ensures { IfOk result (λ bay. (world_of bay).attached.drives ≡ 0) }
+{
+    let mut map = MemMap::new(alloc);
+    for (path, bytes) in files {
+        map.add(path, bytes.as_bytes(), 0)?;
+    }
+    let mut bay = MemBay::new(alloc);
+    bay.add_drive("D", map)?;
+    Ok(bay)
+}
+
+fn words_of(alloc: Global, words: &[&str]) -> Result<WordList, AllocError> {
+    let mut list = WordList::new(alloc);
+    for word in words {
+        list.push(word)?;
+    }
+    Ok(list)
+}
+
+// The calls by a letter each, a failed one by a small letter.
+fn letter(event: &Event) -> char {
+    match event {
+        Event::AttachDrive { .. } => 'A',
+        Event::AttachFailed { .. } => 'a',
+        Event::DriveList { got: Some(_), .. } => 'L',
+        Event::DriveList { .. } => 'l',
+        Event::DriveRead {
+            got: DriveGot::Failed,
+            ..
+        } => 'r',
+        Event::DriveRead { .. } => 'R',
+        Event::Say { ok: true, .. } => 'S',
+        Event::Say { .. } => 's',
+    }
+}
+
+// The calls, then the lines that were said, each ended by a line feed, and the status.
+fn told(alloc: Global, bay: &MemBay, status: u8) -> Result<String, Fail> {
+    let mut text = String::new(alloc);
+    for event in bay.events() {
+        text.push(letter(event))?;
+    }
+    text.push('\n')?;
+    for event in bay.events() {
+        if let Event::Say { line, ok: true } = event {
+            text.push_str(str::from_utf8(line.as_slice())?)?;
+            text.push('\n')?;
+        }
+    }
+    let status = format!(in alloc; "{status}")?;
+    text.push_str(&status)?;
+    Ok(text)
+}
+
+// What a run told whose n-th call fails; none for 0.
+fn run(alloc: Global, files: &[(&str, &str)], words: &[&str], n: u64) -> Result<String, Fail> {
+    let mut bay = bay_with(alloc, files)?;
+    if n > 0 {
+        bay.fail_call(n)?;
+    }
+    let words = words_of(alloc, words)?;
+    let status = station(alloc, &mut bay, &words);
+    told(alloc, &bay, status)
+}
+
+const VERIFY: [&str; 3] = ["verify", "x.mhl", "D"];
+
+#[test]
+fn drives_are_verified(rt: HostRuntime) -> Result<(), Fail> {
+    let alloc = rt.alloc();
+    let (half, _) = LIST.split_at(LIST.len() / 2);
+    let good = ("a.mov", "abc");
+    let list = ("x.mhl", LIST);
+    let rows = [
+        ([good, list], "ALRRLRRS\n", GOOD, "0"),
+        (
+            [("b.mov", "abc"), list],
+            "ALRRLSSS\n",
+            "missing a.mov\nunlisted b.mov\nverdict bad 1 entries 1 missing 0 altered 0 unchecked 1 unlisted\n",
+            "1",
+        ),
+        (
+            [("a.mov", ""), list],
+            "ALRRLRSSS\n",
+            "altered size 3 0 a.mov\naltered md5 900150983cd24fb0d6963f7d28e17f72 d41d8cd98f00b204e9800998ecf8427e a.mov\nverdict bad 1 entries 0 missing 1 altered 0 unchecked 0 unlisted\n",
+            "1",
+        ),
+        (
+            [good, ("x.mhl", half)],
+            "ALRRS\n",
+            "unreadable notyet\n",
+            "7",
+        ),
+        ([good, ("y.mhl", LIST)], "ALS\n", "unreadable absent\n", "7"),
+    ];
+    for (files, calls, lines, status) in rows {
+        let expected = format!(in alloc; "{calls}{lines}{status}")?;
+        assert_eq!(rt; run(alloc, &files, &VERIFY, 0)?.as_str(), expected.as_str());
+    }
+    let beside = [good, list, ("u.mov", "")];
+    assert_eq!(rt;
+        run(alloc, &beside, &VERIFY, 0)?.as_str(),
+        "ALRRLRRSS\nunlisted u.mov\nverdict good 1 entries 0 missing 0 altered 0 unchecked 1 unlisted\n0"
+    );
+    Ok(())
+}
+
+#[test]
+fn other_words_are_refused(rt: HostRuntime) -> Result<(), Fail> {
+    let alloc = rt.alloc();
+    let rows: [&[&str]; 9] = [
+        &[],
+        &["verify"],
+        &["verify", "x.mhl"],
+        &["verify", "x.mhl", "D", "E"],
+        &["check", "x.mhl", "D"],
+        &["verify", "x.mhl", ""],
+        &["verify", "a/x.mhl", "D"],
+        &["verify", "..", "D"],
+        &["verify", ".mhlstation", "D"],
+    ];
+    for words in rows {
+        let text = run(alloc, &[("x.mhl", LIST)], words, 0)?;
+        assert_eq!(rt; text.as_str(), "S\nrefused words\n2");
+    }
+    Ok(())
+}
+
+#[test]
+fn a_failed_call_has_its_status(rt: HostRuntime) -> Result<(), Fail> {
+    let alloc = rt.alloc();
+    let files = [("a.mov", "abc"), ("x.mhl", LIST)];
+    let rows = [
+        (1, "aS\nfailed attach drive 0\n4"),
+        (2, "AlS\nfailed drive\n8"),
+        (3, "ALrS\nfailed drive\n8"),
+        (4, "ALRrS\nfailed drive\n8"),
+        (5, "ALRRlS\nfailed drive\n8"),
+        (6, "ALRRLrS\nfailed drive\n8"),
+        (7, "ALRRLRrS\nfailed drive\n8"),
+        (8, "ALRRLRRs\n5"),
+    ];
+    for (n, expected) in rows {
+        assert_eq!(rt; run(alloc, &files, &VERIFY, n)?.as_str(), expected);
+    }
+    let unsaid = run(alloc, &files, &[], 1)?;
+    assert_eq!(rt; unsaid.as_str(), "s\n5");
+    let elsewhere = run(alloc, &files, &["verify", "x.mhl", "E"], 0)?;
+    assert_eq!(rt; elsewhere.as_str(), "aS\nfailed attach drive 0\n4");
+    Ok(())
+}

@@ -1,0 +1,162 @@
+-- What was said before a run stopped.
+use Rattle.std.proofs.Common.{◌≡◌, inl, inr, ℕ, true, false, List, [], ◌∷◌, ◌++◌, length, refl, sym, ◌∙◌, ap, subst, append_assoc, append-nil, arith}
+use Rattle.std.proofs.lemmas.Bool.Decides.{nat_tests}
+use Rattle.std.specs.Prelude.{Option, Some, None, Err, nat_eq}
+use Rattle.bay_core.specs.declared.event.Event.{Event}
+use Rattle.bay_core.specs.declared.event.Event.TheVariants.{AttachDrive, AttachFailed, DriveList, DriveRead, Say}
+use Rattle.bay_core.specs.declared.event.DriveGot.TheVariants.{Failed}
+use Rattle.bay_core.specs.declared.failed.Failed.{Failed as DeviceFailed}
+use Rattle.bay_core.specs.declared.failed.ListError.{ListError}
+use Rattle.bay_core.specs.declared.failed.ListError.TheVariants.{Failed as ListFailed}
+use Rattle.bay_core.specs.Map.{Map}
+use Rattle.bay_core.specs.Replay.{Device, Drive, Output, device_of, calls_on, replayed, reads}
+use Rattle.bay_core.specs.World.{World, Honest}
+use Rattle.bay_core.specs.Went.{AllOn, Went, Only, Called, Ran, ReadCall, ListCall, no_fault, say_call}
+use Rattle.bay_core.specs.Looks.{Here, Exactly, Looks, AtMost, Stops, Caused, Stopped, line_of, said}
+use Rattle.bay_core.proofs.Runs.{went_then, went_such, went_none, rose_since, told_since}
+use Rattle.bay_core.proofs.Replays.{reads-append}
+use Rattle.bay_core.proofs.Honesty.{honest_before}
+use Rattle.bay_core.proofs.Looking.{drive_here, output_here, looks_append, no_looks, stopped_after, say_failed, said_append}
+use Rattle.verify_run.specs.declared.verdict.VerifyError.{VerifyError}
+use Rattle.verify_run.specs.declared.verdict.VerifyError.TheVariants.{DriveFailed, OutFailed}
+use Rattle.verify_run.specs.Calls.{stopped_at_device, Halted, Silent, Begun, Unsaid, LinesStopped}
+
+-- no call changes what a drive has
+unchanged : (m : Map) (A : List Event) → replayed m A ≡ m
+unchanged m [] = refl
+unchanged m (e ∷ A) = unchanged m A
+
+-- so a run that stopped did not
+reads_stopped : (m : Map) (L A : List Event) (d : ℕ) (at : Option Device) → Stops at A → reads m (L ++ A) d ≡ reads m L d
+reads_stopped m L A d at stops = reads-append m L A d ∙ unchanged (reads m L d) (calls_on d A)
+
+-- before a run that stopped an honest drive was honest, with the same map
+pub stopped_before : (d : ℕ) (at : Option Device) (m : Map) (L : List Event) {old new : World} → Stopped d at old new → Honest new d m L → (before : List Event) × Honest old d m before × (reads m L d ≡ reads m before d)
+stopped_before d at m L s h =
+    let b = honest_before d m L s.went h in
+    let t = told_since s.went b.0 L b.1.events h.events in
+    (b.0, b.1, ap (λ K. reads m K d) t.is ∙ reads_stopped m b.0 t.since d at t.such)
+
+no_line : (d : ℕ) (e : Event) → device_of e ≡ Drive d → line_of e ≡ []
+no_line d (AttachDrive e place) is = refl
+no_line d (AttachFailed place) is = refl
+no_line d (DriveList e got) is = refl
+no_line d (DriveRead e path at want got) is = refl
+no_line d (Say line ok) is = absurd (cc is)
+
+no_lines : (d : ℕ) (L : List Event) → AllOn (Only (Drive d)) L → said L ≡ []
+unfolding AllOn
+no_lines d [] on = refl
+no_lines d (e ∷ L) on = λ i. no_line d e on.0 i ++ no_lines d L on.1 i
+
+-- calls on the drive alone say nothing
+pub drive_silent : (d : ℕ) {P : List Event → Type 0} {old new : World} → Went (Only (Drive d)) P old new → Went (Here d) Silent old new
+drive_silent d w = drive_here d (record {
+  told = λ all now. let m = w.told all now in record { before = m.before; since = m.since; was = m.was; is = m.is; on = m.on; such = no_lines d m.since m.on };
+  later = w.later;
+  others = w.others;
+  attached = w.attached;
+})
+
+caused_since : (at : Option Device) {On : Device → Type 0} {P : List Event → Type 0} {old mid : World} (new : World) → Went On P old mid → Caused at mid new → Caused at old new
+caused_since None new w c = tt
+caused_since (Some x) new w c = rose_since x (new.faults x) w c
+
+-- looks on the drive, and then a run that stopped
+pub halted_after : (d : ℕ) (at : Option Device) (A : List Event) {old mid new : World} → Looks A → Went (Only (Drive d)) (Exactly A) old mid → Halted d at mid new → Halted d at old new
+halted_after d at A looks one two = record {
+  went = went_such (λ L t. record {
+    looks = A ++ t.there.looks;
+    last = t.there.last;
+    is = t.is ∙ (λ i. t.here i ++ t.there.is i) ∙ sym (append_assoc A t.there.looks t.there.last);
+    answered = looks_append A t.there.looks looks t.there.answered;
+    failed = t.there.failed;
+  }) (went_then one two.went);
+  cause = caused_since at _ one two.cause;
+}
+
+-- looks on the drive, of which none failed
+pub halted_looks : (d : ℕ) (A : List Event) {old new : World} → Looks A → Went (Only (Drive d)) (Exactly A) old new → Halted d None old new
+halted_looks d A looks one = record {
+  went = went_such (λ L is. record { looks = A; last = []; is = is ∙ sym (append-nil A); answered = looks; failed = refl }) one;
+  cause = tt;
+}
+
+-- no call
+pub halted_none : (d : ℕ) (w : World) → Halted d None w w
+halted_none d w = halted_looks d [] no_looks (went_none (Only (Drive d)) w)
+
+-- one call on the drive, which failed
+halted_at : (d : ℕ) {P : List Event → Type 0} {old new : World} → ((L : List Event) → P L → AtMost (Some (Drive d)) L) → Called (Drive d) P false old new → Halted d (Some (Drive d)) old new
+halted_at d so called = record {
+  went = went_such (λ L p. record { looks = []; last = L; is = refl; answered = no_looks; failed = so L p }) called.went;
+  cause = called.cause refl;
+}
+
+itself : (d : ℕ) → nat_eq d d ≡ true
+itself d = grind (arith, nat_tests)
+
+pub read_halted : (d : ℕ) (path : List ℕ) (at : ℕ) (into : List ℕ) (e : DeviceFailed) {old new : World} → Called (Drive d) (ReadCall d path at into (Err e)) false old new → Halted d (Some (Drive d)) old new
+read_halted d path at into e called = halted_at d (λ L p. elim p [ inl none ↦ inl none | inr one ↦ inr (DriveRead d path at (length into) Failed, one, itself d) ]) called
+
+pub list_halted : (d : ℕ) (e : ListError) {old new : World} → e ≡ ListFailed → Called (Drive d) (ListCall d (Err e)) (no_fault (Err e)) old new → Halted d (Some (Drive d)) old new
+list_halted d e {old} {new} is called =
+    halted_at d (λ L p. elim p [ inl none ↦ inl none | inr one ↦ inr (DriveList d None, one, itself d) ]) (subst (λ x. Called (Drive d) (ListCall d (Err x)) (no_fault (Err x)) old new) is called)
+
+one_unsaid : (line : List ℕ) (L : List Event) → Ran (say_call line ∷ []) false L → said L ≡ []
+unfolding Ran
+one_unsaid line L (inl none) = ap said none
+one_unsaid line L (inr (inl one)) = ap said one
+one_unsaid line L (inr (inr (rest, is, more))) = absurd more
+
+-- a line that could not be said
+pub line_unsaid : (d : ℕ) (line : List ℕ) {old new : World} → Called Output (Ran (say_call line ∷ []) false) false old new → Unsaid d OutFailed old new
+line_unsaid d line called = record { stopped = say_failed d line called; failed = λ is. absurd (cc is); silent = output_here d (went_such (λ L ran. one_unsaid line L ran) called.went) }
+
+pub halted_stopped : (d : ℕ) (at : Option Device) {old new : World} → Halted d at old new → Stopped d at old new
+halted_stopped d at h = record { went = drive_here d h.went; cause = h.cause }
+
+pub halted_unsaid : (d : ℕ) {old new : World} → Halted d (Some (Drive d)) old new → Unsaid d DriveFailed old new
+halted_unsaid d h = record { stopped = halted_stopped d (Some (Drive d)) h; failed = λ is. absurd (cc is); silent = drive_silent d h.went }
+
+pub begun_none : (lines : List (List ℕ)) (L : List Event) → Silent L → Begun lines L
+begun_none lines L none = (lines, ap (λ (l : List (List ℕ)). l ++ lines) (sym none))
+
+begun_more : (lines more : List (List ℕ)) (L : List Event) → Begun lines L → Begun (lines ++ more) L
+begun_more lines more L (rest, is) = (rest ++ more, ap (λ (l : List (List ℕ)). l ++ more) is ∙ append_assoc (said L) rest more)
+
+pub begun_then : (first then_lines : List (List ℕ)) (A B : List Event) → said A ≡ first → Begun then_lines B → Begun (first ++ then_lines) (A ++ B)
+begun_then first then_lines A B one (rest, is) =
+    (rest, (λ i. sym one i ++ is i) ∙ sym (append_assoc (said A) (said B) rest) ∙ ap (λ (l : List (List ℕ)). l ++ rest) (sym (said_append A B)))
+
+pub unsaid_lines : (d : ℕ) (K : Map → Type 0) (lines : Map → List (List ℕ)) (e : VerifyError) {old new : World} → Unsaid d e old new → LinesStopped d K lines e old new
+unsaid_lines d K lines e u = record { stopped = u.stopped; failed = u.failed; honest = λ m L h known. went_such (λ X none. begun_none (lines (reads m L d)) X none) u.silent }
+
+-- looks that said lines, and then a run that stopped
+pub lines_after : (d : ℕ) (K : Map → Type 0) (first then_lines : Map → List (List ℕ)) (e : VerifyError) (A : List Event) {old mid new : World} → Looks A → Went (Here d) (Exactly A) old mid
+    → ((m : Map) (L : List Event) → Honest mid d m L → K (reads m L d) → said A ≡ first (reads m L d)) → LinesStopped d K then_lines e mid new → LinesStopped d K (λ m. first m ++ then_lines m) e old new
+lines_after d K first then_lines e A looks went says s = record {
+  stopped = stopped_after d (stopped_at_device d e) A looks went s.stopped;
+  failed = s.failed;
+  honest = λ m L h known.
+      let b = stopped_before d (stopped_at_device d e) m L s.stopped h in
+      let here : said A ≡ first (reads m L d) = says m b.0 b.1 (subst K b.2 known) ∙ ap first (sym b.2) in
+      went_such (λ X t. subst (Begun (first (reads m L d) ++ then_lines (reads m L d))) (sym t.is) (begun_then _ _ t.first t.second (ap said t.here ∙ here) t.there)) (went_then went (s.honest m L h known));
+}
+
+-- more lines would have been said
+pub lines_more : (d : ℕ) (K : Map → Type 0) (lines more : Map → List (List ℕ)) (e : VerifyError) {old new : World} → LinesStopped d K lines e old new → LinesStopped d K (λ m. lines m ++ more m) e old new
+lines_more d K lines more e s = record {
+  stopped = s.stopped;
+  failed = s.failed;
+  honest = λ m L h known. went_such (λ X b. begun_more (lines (reads m L d)) (more (reads m L d)) X b) (s.honest m L h known);
+}
+
+-- the same lines, otherwise written, where more is known
+pub lines_as : (d : ℕ) (J K : Map → Type 0) (lines same : Map → List (List ℕ)) (e : VerifyError) {old new : World} → ((m : Map) → K m → J m) → ((m : Map) → K m → lines m ≡ same m) → LinesStopped d J lines e old new
+    → LinesStopped d K same e old new
+lines_as d J K lines same e so is s = record {
+  stopped = s.stopped;
+  failed = s.failed;
+  honest = λ m L h known. went_such (λ X b. subst (λ (l : List (List ℕ)). Begun l X) (is (reads m L d) known) b) (s.honest m L h (so (reads m L d) known));
+}

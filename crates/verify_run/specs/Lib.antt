@@ -1,0 +1,5 @@
+pub mod Report
+pub mod Calls
+pub mod Results
+pub mod Seen
+pub mod Loading

@@ -1,0 +1,15 @@
+//! Verifying the files of a drive against a list that lies on it.
+#![tactic(auto)]
+
+mod checking;
+mod loading;
+mod reading;
+mod saying;
+#[cfg(test)]
+mod tests;
+mod verdict;
+mod verifying;
+
+pub use loading::{LoadError, load_list};
+pub use verdict::{Outcome, Standing, Verdict, VerifyError};
+pub use verifying::verify;
