@@ -6,7 +6,8 @@ use Rattle.bay_core.specs.declared.event.Event.TheVariants.{AttachDrive}
 use Rattle.bay_core.specs.Map.{Map, Dates}
 use Rattle.bay_core.specs.Replay.{Device, calls_on, reads, dated}
 use Rattle.bay_core.specs.World.{World, Attached, Honest}
-use Rattle.bay_core.specs.Went.{Went, Attaches}
+use Rattle.bay_core.specs.Went.{Went}
+use Rattle.bay_core.specs.Attach.{Attaches}
 use Rattle.bay_core.proofs.Replays.{calls_elsewhere, no_calls, no_calls_dated}
 
 -- an honest drive is honest after calls

@@ -2,6 +2,9 @@ pub mod Runs
 pub mod Replays
 pub mod Honesty
 pub mod Looking
-pub mod Trees
-pub mod Drives
-pub mod Worlds
+pub mod Files
+pub mod Maps
+pub mod Readable
+pub mod Crash
+pub mod Changes
+pub mod Rest

@@ -1,20 +1,20 @@
 -- Runs of looks, and where they stop.
-use Rattle.std.proofs.Common.{◌≡◌, inl, inr, ℕ, ◌+◌, true, false, cond, List, [], ◌∷◌, ◌++◌, length, take, refl, sym, ◌∙◌, ap, append_assoc, append-nil, arith, length-append}
+use Rattle.std.proofs.Common.{◌≡◌, inl, inr, ℕ, ◌+◌, true, false, cond, List, [], ◌∷◌, ◌++◌, length, take, refl, sym, ◌∙◌, ap, subst, append_assoc, append-nil, arith, length-append}
 use Rattle.std.proofs.lemmas.List.{map-append}
 use Rattle.std.proofs.lemmas.Bool.Decides.{nat_tests}
 use Rattle.std.specs.Prelude.{Option, Some, None, unwrap_or, option_map, Ok, Err, Vec, nat_eq}
 use Rattle.std.specs.Global.{Global}
 use Rattle.bay_core.specs.declared.event.FileInfo.{FileInfo}
 use Rattle.bay_core.specs.declared.event.Event.{Event}
-use Rattle.bay_core.specs.declared.event.Event.TheVariants.{DriveList, DriveRead, Say}
+use Rattle.bay_core.specs.declared.event.Event.TheVariants.{AttachSource, AttachDrive, AttachFailed, SourceList, SourceRead, DriveList, DriveRead, Write, Sync, Rename, Remove, Moment, Pick, Say}
 use Rattle.bay_core.specs.declared.event.DriveGot.TheVariants.{Failed}
 use Rattle.bay_core.specs.declared.failed.Failed.{Failed as DeviceFailed}
 use Rattle.bay_core.specs.declared.failed.ListError.TheVariants.{Failed as ListFailed, Memory}
 use Rattle.bay_core.specs.Map.{Map, Dates}
-use Rattle.bay_core.specs.Replay.{Device, Drive, Output, device_of, is_on, calls_on, changed, undated, replayed, redated, reads, dated}
+use Rattle.bay_core.specs.Replay.{Device, Source, Drive, Attaching, Output, Clock, Picker, device_of, is_on, calls_on, changed, undated, replayed, redated, reads, dated}
 use Rattle.bay_core.specs.World.{World, Honest}
 use Rattle.bay_core.specs.Went.{Went, Only, Called, Ran, ReadCall, ListCall, say_call}
-use Rattle.bay_core.specs.Looks.{Here, Exactly, says, read_call, piece, given, Tiles, is_look, Looks, AtMost, Caused, Stopped, line_of, said}
+use Rattle.bay_core.specs.Looks.{Here, Exactly, says, read_call, piece, given, Tiles, is_look, Looks, is_change, NoChange, is_failure, AtMost, Stops, Caused, Stopped, line_of, said}
 use Rattle.bay_core.proofs.Runs.{went_then, went_such, went_on, went_none, rose_since, told_since, all_ran}
 use Rattle.bay_core.proofs.Replays.{reads-append, dated-append}
 use Rattle.bay_core.proofs.Honesty.{honest_before}
@@ -164,36 +164,144 @@ say_failed d line called = stopped_at d Output (one_unsaid line) (output_here d 
 pub said_ok : (d : ℕ) (line : List ℕ) {old new : World} → Called Output (Ran (say_call line ∷ []) true) true old new → Went (Here d) (Exactly (says (line ∷ []))) old new
 said_ok d line called = output_here d (went_such (λ L ran. all_ran (say_call line ∷ []) L ran) called.went)
 
-look_same : (R : Map) (e : Event) → is_look e ≡ true → changed R e ≡ R
-look_same R e h = refl
+kept : (R : Map) (e : Event) → is_change e ≡ false → changed R e ≡ R
+kept R (AttachSource n place) h = refl
+kept R (AttachDrive n place) h = refl
+kept R (AttachFailed place) h = refl
+kept R (SourceList n got) h = refl
+kept R (SourceRead n path at want got) h = refl
+kept R (DriveList n got) h = refl
+kept R (DriveRead n path at want got) h = refl
+kept R (Sync n ok) h = refl
+kept R (Moment n) h = refl
+kept R (Pick n) h = refl
+kept R (Say line ok) h = refl
+kept R (Write n path at bytes ok) h = absurd (cc h)
+kept R (Rename n from to ok) h = absurd (cc h)
+kept R (Remove n path ok) h = absurd (cc h)
 
-look_same_dates : (t : Dates) (e : Event) → is_look e ≡ true → undated t e ≡ t
-look_same_dates t e h = refl
+kept_dates : (t : Dates) (e : Event) → is_change e ≡ false → undated t e ≡ t
+kept_dates t (AttachSource n place) h = refl
+kept_dates t (AttachDrive n place) h = refl
+kept_dates t (AttachFailed place) h = refl
+kept_dates t (SourceList n got) h = refl
+kept_dates t (SourceRead n path at want got) h = refl
+kept_dates t (DriveList n got) h = refl
+kept_dates t (DriveRead n path at want got) h = refl
+kept_dates t (Sync n ok) h = refl
+kept_dates t (Moment n) h = refl
+kept_dates t (Pick n) h = refl
+kept_dates t (Say line ok) h = refl
+kept_dates t (Write n path at bytes ok) h = absurd (cc h)
+kept_dates t (Rename n from to ok) h = absurd (cc h)
+kept_dates t (Remove n path ok) h = absurd (cc h)
 
-same_replay : (R : Map) (A : List Event) (d : ℕ) → Looks A → replayed R (calls_on d A) ≡ R
-unfolding Looks
-same_replay R [] d a = refl
-same_replay R (e ∷ A) d a =
+kept_replay : (R : Map) (A : List Event) (d : ℕ) → NoChange A → replayed R (calls_on d A) ≡ R
+unfolding NoChange
+kept_replay R [] d a = refl
+kept_replay R (e ∷ A) d a =
     elim (is_on d (device_of e)) as (λ b. replayed R (cond b (e ∷ calls_on d A) (calls_on d A)) ≡ R) [
-      | true ↦ ap (λ r. replayed r (calls_on d A)) (look_same R e a.0) ∙ same_replay R A d a.1
-      | false ↦ same_replay R A d a.1
+      | true ↦ ap (λ r. replayed r (calls_on d A)) (kept R e a.0) ∙ kept_replay R A d a.1
+      | false ↦ kept_replay R A d a.1
     ]
 
-same_dates : (t : Dates) (A : List Event) (d : ℕ) → Looks A → redated t (calls_on d A) ≡ t
-unfolding Looks
-same_dates t [] d a = refl
-same_dates t (e ∷ A) d a =
+kept_redate : (t : Dates) (A : List Event) (d : ℕ) → NoChange A → redated t (calls_on d A) ≡ t
+unfolding NoChange
+kept_redate t [] d a = refl
+kept_redate t (e ∷ A) d a =
     elim (is_on d (device_of e)) as (λ b. redated t (cond b (e ∷ calls_on d A) (calls_on d A)) ≡ t) [
-      | true ↦ ap (λ r. redated r (calls_on d A)) (look_same_dates t e a.0) ∙ same_dates t A d a.1
-      | false ↦ same_dates t A d a.1
+      | true ↦ ap (λ r. redated r (calls_on d A)) (kept_dates t e a.0) ∙ kept_redate t A d a.1
+      | false ↦ kept_redate t A d a.1
     ]
+
+-- calls that change nothing leave a drive as it was
+pub reads_kept : (m : Map) (L A : List Event) (d : ℕ) → NoChange A → reads m (L ++ A) d ≡ reads m L d
+reads_kept m L A d none = reads-append m L A d ∙ kept_replay (reads m L d) A d none
+
+pub dated_kept : (t : Dates) (L A : List Event) (d : ℕ) → NoChange A → dated t (L ++ A) d ≡ dated t L d
+dated_kept t L A d none = dated-append t L A d ∙ kept_redate (dated t L d) A d none
+
+pub no_change_append : (A B : List Event) → NoChange A → NoChange B → NoChange (A ++ B)
+unfolding NoChange
+no_change_append [] B a b = b
+no_change_append (e ∷ A) B a b = (a.0, no_change_append A B a.1 b)
+
+pub no_change_none : NoChange []
+unfolding NoChange
+no_change_none = tt
+
+pub no_change_one : (e : Event) → is_change e ≡ false → NoChange (e ∷ [])
+unfolding NoChange
+no_change_one e h = (h, tt)
+
+look_keeps : (e : Event) → is_look e ≡ true → is_change e ≡ false
+look_keeps (AttachSource n place) h = refl
+look_keeps (AttachDrive n place) h = refl
+look_keeps (AttachFailed place) h = refl
+look_keeps (SourceList n got) h = refl
+look_keeps (SourceRead n path at want got) h = refl
+look_keeps (DriveList n got) h = refl
+look_keeps (DriveRead n path at want got) h = refl
+look_keeps (Sync n ok) h = refl
+look_keeps (Moment n) h = refl
+look_keeps (Pick n) h = refl
+look_keeps (Say line ok) h = refl
+look_keeps (Write n path at bytes ok) h = absurd (cc h)
+look_keeps (Rename n from to ok) h = absurd (cc h)
+look_keeps (Remove n path ok) h = absurd (cc h)
+
+failure_keeps : (x : Device) (e : Event) → is_failure x e ≡ true → is_change e ≡ false
+failure_keeps x (AttachSource n place) h = refl
+failure_keeps x (AttachDrive n place) h = refl
+failure_keeps x (AttachFailed place) h = refl
+failure_keeps x (SourceList n got) h = refl
+failure_keeps x (SourceRead n path at want got) h = refl
+failure_keeps x (DriveList n got) h = refl
+failure_keeps x (DriveRead n path at want got) h = refl
+failure_keeps x (Sync n ok) h = refl
+failure_keeps x (Moment n) h = refl
+failure_keeps x (Pick n) h = refl
+failure_keeps x (Say line ok) h = refl
+failure_keeps (Source s) (Write n path at bytes ok) h = absurd (cc h)
+failure_keeps (Source s) (Rename n from to ok) h = absurd (cc h)
+failure_keeps (Source s) (Remove n path ok) h = absurd (cc h)
+failure_keeps (Drive d) (Write n path at bytes ok) h = absurd (cc h)
+failure_keeps (Drive d) (Rename n from to ok) h = absurd (cc h)
+failure_keeps (Drive d) (Remove n path ok) h = absurd (cc h)
+failure_keeps Attaching (Write n path at bytes ok) h = absurd (cc h)
+failure_keeps Attaching (Rename n from to ok) h = absurd (cc h)
+failure_keeps Attaching (Remove n path ok) h = absurd (cc h)
+failure_keeps Output (Write n path at bytes ok) h = absurd (cc h)
+failure_keeps Output (Rename n from to ok) h = absurd (cc h)
+failure_keeps Output (Remove n path ok) h = absurd (cc h)
+failure_keeps Clock (Write n path at bytes ok) h = absurd (cc h)
+failure_keeps Clock (Rename n from to ok) h = absurd (cc h)
+failure_keeps Clock (Remove n path ok) h = absurd (cc h)
+failure_keeps Picker (Write n path at bytes ok) h = absurd (cc h)
+failure_keeps Picker (Rename n from to ok) h = absurd (cc h)
+failure_keeps Picker (Remove n path ok) h = absurd (cc h)
+
+-- looks change nothing
+pub looks_keep : (A : List Event) → Looks A → NoChange A
+unfolding Looks NoChange
+looks_keep [] a = tt
+looks_keep (e ∷ A) a = (look_keeps e a.0, looks_keep A a.1)
+
+at_most_keeps : (at : Option Device) (L : List Event) → AtMost at L → NoChange L
+at_most_keeps None L is = subst NoChange (sym is) no_change_none
+at_most_keeps (Some x) L (inl is) = subst NoChange (sym is) no_change_none
+at_most_keeps (Some x) L (inr (e, is, failed)) = subst NoChange (sym is) (no_change_one e (failure_keeps x e failed))
+
+-- looks that stopped change nothing
+pub stops_keep : (at : Option Device) (L : List Event) → Stops at L → NoChange L
+stops_keep at L s = subst NoChange (sym s.is) (no_change_append s.looks s.last (looks_keep s.looks s.answered) (at_most_keeps at s.last s.failed))
 
 -- looks change nothing on a drive
 pub reads_looked : (m : Map) (L A : List Event) (d : ℕ) → Looks A → reads m (L ++ A) d ≡ reads m L d
-reads_looked m L A d looks = reads-append m L A d ∙ same_replay (reads m L d) A d looks
+reads_looked m L A d looks = reads_kept m L A d (looks_keep A looks)
 
 pub dated_looked : (t : Dates) (L A : List Event) (d : ℕ) → Looks A → dated t (L ++ A) d ≡ dated t L d
-dated_looked t L A d looks = dated-append t L A d ∙ same_dates (dated t L d) A d looks
+dated_looked t L A d looks = dated_kept t L A d (looks_keep A looks)
 
 -- before some looks an honest drive was honest, with the same map and dates
 pub record Before (d : ℕ) (m : Map) (L : List Event) (old new : World) : Type 0 where

@@ -1,8 +1,8 @@
 pub mod Map
 pub mod Replay
+pub mod Torn
+pub mod Left
 pub mod World
 pub mod Went
+pub mod Attach
 pub mod Looks
-pub mod Files
-pub mod Tree
-pub mod State

@@ -2,10 +2,10 @@
 use Rattle.std.specs.Prelude.{◌≡◌, ◌⊎◌, ℕ, ◌+◌, Bool, true, false, List, [], ◌∷◌, ◌++◌, map, length, Option, Some, None, nat_eq}
 use Rattle.std.specs.List.{flat_map}
 use Rattle.bay_core.specs.declared.event.Event.{Event}
-use Rattle.bay_core.specs.declared.event.Event.TheVariants.{AttachFailed, DriveList, DriveRead, Say}
+use Rattle.bay_core.specs.declared.event.Event.TheVariants.{AttachFailed, SourceList, SourceRead, DriveList, DriveRead, Write, Rename, Remove, Say}
 use Rattle.bay_core.specs.declared.event.DriveGot.{DriveGot}
 use Rattle.bay_core.specs.declared.event.DriveGot.TheVariants.{Read, Absent, Failed}
-use Rattle.bay_core.specs.Replay.{Device, Drive, Attaching, Output}
+use Rattle.bay_core.specs.Replay.{Device, Source, Drive, Attaching, Output}
 use Rattle.bay_core.specs.World.{World, Rose}
 use Rattle.bay_core.specs.Went.{Went}
 
@@ -46,6 +46,8 @@ Tiles d path at (e ∷ reads) = ((want : ℕ) × (got : Option (List ℕ)) × (e
 
 -- a listing, a read or a line, answered
 abbrev pub is_look : Event → Bool
+is_look (SourceList s (Some files)) = true
+is_look (SourceRead s path at want (Some bytes)) = true
 is_look (DriveList d (Some files)) = true
 is_look (DriveRead d path at want (Read bytes)) = true
 is_look (DriveRead d path at want Absent) = true
@@ -57,8 +59,22 @@ unfoldable pub Looks : List Event → Type 0
 Looks [] = Unit {0}
 Looks (e ∷ L) = (is_look e ≡ true) × Looks L
 
+-- a call that may change what a drive holds, also where it failed
+abbrev pub is_change : Event → Bool
+is_change (Write d path at bytes ok) = true
+is_change (Rename d from to ok) = true
+is_change (Remove d path ok) = true
+is_change _ = false
+
+-- calls that change nothing
+unfoldable pub NoChange : List Event → Type 0
+NoChange [] = Unit {0}
+NoChange (e ∷ L) = (is_change e ≡ false) × NoChange L
+
 -- a call on this device that failed
 abbrev pub is_failure : Device → Event → Bool
+is_failure (Source s) (SourceList e None) = nat_eq s e
+is_failure (Source s) (SourceRead e path at want None) = nat_eq s e
 is_failure (Drive d) (DriveList e None) = nat_eq d e
 is_failure (Drive d) (DriveRead e path at want Failed) = nat_eq d e
 is_failure Attaching (AttachFailed place) = true

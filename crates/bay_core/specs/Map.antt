@@ -1,8 +1,8 @@
 -- What a drive holds: bytes and dates by path.
-use Rattle.std.specs.Prelude.{◌≡◌, ◌⊎◌, ℕ, ◌≤◌, List, [], length, take, drop, Option, Some, None, unwrap_or, map, bytes_eq, option_map}
+use Rattle.std.specs.Prelude.{◌≡◌, ◌⊎◌, ℕ, ◌+◌, ◌-◌, ◌≤◌, List, [], ◌++◌, length, take, drop, replicate, Option, Some, None, unwrap_or, map, bytes_eq, option_map}
 use Rattle.std.specs.List.{IsDistinct}
 use Rattle.std.specs.Map.{lookup}
-use Rattle.std.specs.FinMap.{FinMap, get}
+use Rattle.std.specs.FinMap.{FinMap, get, insert, remove}
 use Rattle.std.specs.Ordering.{nat_cmp}
 use Rattle.std.specs.Cmp.Lexicographic.{slice_cmp}
 use Rattle.bay_core.specs.declared.event.FileInfo.{FileInfo}
@@ -30,6 +30,22 @@ listed_dates files = map (λ f. (f.path, f.modified)) files
 -- the bytes at a path, none where it is absent
 abbrev pub content : Map → List ℕ → List ℕ
 content m path = unwrap_or (get m path) []
+
+-- these bytes, with zeros behind them up to this place
+abbrev pub padded : ℕ → List ℕ → List ℕ
+padded at old = old ++ replicate (at - length old) 0
+
+-- a file after these bytes were written at this place
+abbrev pub overwritten : List ℕ → ℕ → List ℕ → List ℕ
+overwritten old at bytes = take at (padded at old) ++ bytes ++ drop (at + length bytes) old
+
+-- the map after a rename, the same where the file is absent
+unfoldable pub moved : Map → List ℕ → List ℕ → Map
+moved m from to = elim (get m from) [ None ↦ m | Some c ↦ insert (remove m from) to c ]
+
+-- the map after a rename that left the file under both names, each a content of its own
+unfoldable pub copied : Map → List ℕ → List ℕ → Map
+copied m from to = elim (get m from) [ None ↦ m | Some c ↦ insert m to c ]
 
 -- a read at this place gave these first n bytes, and gave none only at the end or where none were asked
 pub record ReadsSome (map : Map) (path : List ℕ) (at : ℕ) (into : List ℕ) (n : ℕ) : Type 0 where

@@ -1,7 +1,7 @@
 -- What a run of calls did, and that it did nothing else.
-use Rattle.std.specs.Prelude.{◌≡◌, ◌⊎◌, ℕ, ◌≤◌, ◌+◌, ◌<◌, take, length, Bool, true, false, List, [], ◌∷◌, ◌++◌, Option, Some, None, Result, Ok, Err, OnErr, Vec}
+use Rattle.std.specs.Prelude.{◌≡◌, ◌⊎◌, ℕ, ◌≤◌, take, length, Bool, true, false, List, [], ◌∷◌, ◌++◌, Option, Some, None, Result, Ok, Err, Vec}
 use Rattle.bay_core.specs.declared.event.Event.{Event}
-use Rattle.bay_core.specs.declared.event.Event.TheVariants.{AttachDrive, AttachFailed, DriveList, DriveRead, Say}
+use Rattle.bay_core.specs.declared.event.Event.TheVariants.{SourceList, SourceRead, DriveList, DriveRead, Write, Sync, Rename, Remove, Say}
 use Rattle.bay_core.specs.declared.event.FileInfo.{FileInfo}
 use Rattle.bay_core.specs.declared.event.DriveGot.{DriveGot}
 use Rattle.bay_core.specs.declared.event.DriveGot.TheVariants.{Read, Absent, Failed}
@@ -9,8 +9,8 @@ use Rattle.bay_core.specs.declared.failed.Failed.{Failed as DeviceFailed}
 use Rattle.bay_core.specs.declared.failed.ListError.{ListError}
 use Rattle.bay_core.specs.declared.failed.ListError.TheVariants.{Failed as ListFailed, Memory}
 use Rattle.std.specs.Global.{Global}
-use Rattle.bay_core.specs.Replay.{Device, Attaching, device_of, calls_on}
-use Rattle.bay_core.specs.World.{World, Attached, Rose}
+use Rattle.bay_core.specs.Replay.{Device, Drive, device_of}
+use Rattle.bay_core.specs.World.{World, Rose}
 
 -- each call is on one of these devices
 unfoldable pub AllOn : (Device → Type 0) → List Event → Type 0
@@ -49,9 +49,29 @@ Ran [] false L = ⊥
 Ran (c ∷ cs) true L = (rest : List Event) × (L ≡ c true ∷ rest) × Ran cs true rest
 Ran (c ∷ cs) false L = (L ≡ []) ⊎ (L ≡ c false ∷ []) ⊎ ((rest : List Event) × (L ≡ c true ∷ rest) × Ran cs false rest)
 
+-- a write, done or not
+abbrev pub write_call : ℕ → List ℕ → ℕ → List ℕ → Bool → Event
+write_call d path at bytes ok = Write d path at bytes ok
+
+-- a barrier, kept or not
+abbrev pub sync_call : ℕ → Bool → Event
+sync_call d ok = Sync d ok
+
+-- a rename, done or not
+abbrev pub rename_call : ℕ → List ℕ → List ℕ → Bool → Event
+rename_call d from to ok = Rename d from to ok
+
+-- a removal, done or not
+abbrev pub remove_call : ℕ → List ℕ → Bool → Event
+remove_call d path ok = Remove d path ok
+
 -- a line, said or not
 abbrev pub say_call : List ℕ → Bool → Event
 say_call line ok = Say line ok
+
+-- these calls on drive d, and its count rose where ok is false
+abbrev pub Tried : ℕ → List (Bool → Event) → Bool → World → World → Type 0
+Tried d calls ok old new = Called (Drive d) (Ran calls ok) ok old new
 
 -- first such events and then such
 pub record Then (P Q : List Event → Type 0) (L : List Event) : Type 0 where
@@ -89,32 +109,18 @@ ListCall d (Ok files) = IsCall (DriveList d (Some files.items))
 ListCall d (Err ListFailed) = MaySee (DriveList d None)
 ListCall d (Err Memory) = NoCall
 
--- the drive did not fail
+-- the call of a read of a card with this answer
+abbrev pub CardReadCall : ℕ → List ℕ → ℕ → List ℕ → Result ℕ DeviceFailed → List Event → Type 0
+CardReadCall s path at into (Ok n) = IsCall (SourceRead s path at (length into) (Some (take n into)))
+CardReadCall s path at into (Err e) = MaySee (SourceRead s path at (length into) None)
+
+-- the call of a listing of a card with this answer
+abbrev pub CardListCall : ℕ → Result (Vec FileInfo Global) ListError → List Event → Type 0
+CardListCall s (Ok files) = IsCall (SourceList s (Some files.items))
+CardListCall s (Err ListFailed) = MaySee (SourceList s None)
+CardListCall s (Err Memory) = NoCall
+
+-- the device did not fail
 abbrev pub no_fault : Result (Vec FileInfo Global) ListError → Bool
 no_fault (Err ListFailed) = false
 no_fault _ = true
-
--- the call of an attach with this answer
-abbrev pub AttachCall : List ℕ → Result ℕ DeviceFailed → List Event → Type 0
-AttachCall place (Ok d) = IsCall (AttachDrive d place)
-AttachCall place (Err e) = MaySee (AttachFailed place)
-
--- what is known of drive d stays
-pub record SameDrive (d : ℕ) (old new : Attached) : Type 0 where
-  pub start : new.start d ≡ old.start d
-  pub dates : new.dates d ≡ old.dates d
-  pub honest : new.honest d ≡ old.honest d
-
--- the new drive has the next number, and nothing changes of the drives before it
-abbrev pub Numbered : Result ℕ DeviceFailed → Attached → Attached → Type 0
-Numbered (Ok d) old new = (d ≡ old.drives) × (new.drives ≡ old.drives + 1) × ((e : ℕ) → e < old.drives → SameDrive e old new)
-Numbered (Err e) old new = new ≡ old
-
--- One attach: one call, no other device's count changed, and no call before it was on a drive that was not yet attached.
-pub record Attaches (place : List ℕ) (result : Result ℕ DeviceFailed) (old new : World) : Type 0 where
-  pub told : (all : List Event) → new.events ≡ Some all → Made (Only Attaching) (AttachCall place result) old.events all
-  pub later : old.faults Attaching ≤ new.faults Attaching
-  pub others : (x : Device) → (Only Attaching x → ⊥) → new.faults x ≡ old.faults x
-  pub numbered : Numbered result old.attached new.attached
-  pub unused : (L : List Event) → old.events ≡ Some L → (d : ℕ) → old.attached.drives ≤ d → calls_on d L ≡ []
-  pub cause : OnErr result (Rose (old.faults Attaching) (new.faults Attaching))

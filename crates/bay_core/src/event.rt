@@ -59,6 +59,11 @@ pub enum DriveGot {
 /// One call on one device, with its answer.
 #[derive(Debug, Drop)]
 pub enum Event {
+    /// A card was attached, as number `s`.
+    AttachSource {
+        s: u32,
+        place: Bytes,
+    },
     /// A drive was attached, as number `d`.
     AttachDrive {
         d: u32,
@@ -66,6 +71,19 @@ pub enum Event {
     },
     AttachFailed {
         place: Bytes,
+    },
+    /// Card `s` was listed. `None` is a failed call.
+    SourceList {
+        s: u32,
+        got: Option<Listing>,
+    },
+    /// `want` bytes were asked of a file of card `s`, from `at` on. `None` is a failed call.
+    SourceRead {
+        s: u32,
+        path: Bytes,
+        at: u64,
+        want: u64,
+        got: Option<Bytes>,
     },
     /// Drive `d` was listed. `None` is a failed call.
     DriveList {
@@ -79,6 +97,40 @@ pub enum Event {
         at: u64,
         want: u64,
         got: DriveGot,
+    },
+    /// Bytes were written to a file of drive `d`, from `at` on, or were not.
+    Write {
+        d: u32,
+        path: Bytes,
+        at: u64,
+        bytes: Bytes,
+        ok: bool,
+    },
+    /// The barrier of drive `d`, kept or not.
+    Sync {
+        d: u32,
+        ok: bool,
+    },
+    /// A file of drive `d` was renamed, or was not.
+    Rename {
+        d: u32,
+        from: Bytes,
+        to: Bytes,
+        ok: bool,
+    },
+    /// A file of drive `d` was removed, or was not.
+    Remove {
+        d: u32,
+        path: Bytes,
+        ok: bool,
+    },
+    /// The clock was asked.
+    Moment {
+        t: u64,
+    },
+    /// The picker was asked.
+    Pick {
+        n: u32,
     },
     /// A line was said, or could not be.
     Say {

@@ -1,22 +1,22 @@
 -- How the stories of a run follow from its calls.
-use Rattle.std.proofs.Common.{◌≡◌, ◌⊎◌, inl, inr, ℕ, ◌≤◌, List, [], ◌∷◌, ◌++◌, refl, sym, ◌∙◌, ap, subst, append-nil, append_assoc, arith, map}
+use Rattle.std.proofs.Common.{◌≡◌, ◌⊎◌, inl, inr, ℕ, Bool, true, false, ◌≤◌, List, [], ◌∷◌, ◌++◌, refl, sym, ◌∙◌, ap, subst, append-nil, append_assoc, arith, map}
 use Rattle.std.specs.Prelude.{Option, Some, None, Ok, Err}
 use Rattle.std.specs.FinMap.{get}
 use Rattle.std.specs.List.{IsDistinct}
 use Rattle.std.specs.Prelude.{bytes_eq}
 use Rattle.bay_core.specs.declared.event.Event.{Event}
-use Rattle.bay_core.specs.declared.event.Event.TheVariants.{AttachDrive, DriveList}
+use Rattle.bay_core.specs.declared.event.Event.TheVariants.{AttachDrive, DriveList, Say}
 use Rattle.bay_core.specs.declared.event.FileInfo.{FileInfo}
 use Rattle.bay_core.specs.declared.failed.Failed.{Failed as DeviceFailed}
 use Rattle.bay_core.specs.Map.{Map}
-use Rattle.bay_core.specs.Replay.{Device, Drive, Attaching, Output, calls_on, changed, replayed, reads}
+use Rattle.bay_core.specs.Replay.{Device, Source, Drive, Attaching, Output, Clock, Picker, reads}
 use Rattle.bay_core.specs.World.{World, Attached, Honest, Rose}
-use Rattle.bay_core.specs.Went.{Went, Only, Made, Then, SameDrive, Attaches, AttachCall}
-use Rattle.bay_core.specs.Looks.{Looks, says, Here, Stopped, Caused, Says, said}
+use Rattle.bay_core.specs.Went.{Went, Only, Made, Then}
+use Rattle.bay_core.specs.Attach.{SameDrive, Attaches, AttachCall}
+use Rattle.bay_core.specs.Looks.{NoChange, Looks, says, Here, Stopped, Caused, Says, said}
 use Rattle.bay_core.proofs.Runs.{made_then, all_on, went_then, went_such, since_made, rose_still, rose_since, told_since}
-use Rattle.bay_core.proofs.Replays.{reads-append}
 use Rattle.bay_core.proofs.Honesty.{honest_before}
-use Rattle.bay_core.proofs.Looking.{drive_here, output_here, said_append, said_tiles, looks_append, one_look, says_looks}
+use Rattle.bay_core.proofs.Looking.{reads_kept, no_change_append, no_change_none, no_change_one, looks_keep, stops_keep, drive_here, output_here, said_append, said_tiles, looks_append, one_look, says_looks}
 use Rattle.mhl_reader.specs.declared.values.HashList.{HashList}
 use Rattle.mhl_reader.specs.declared.values.HashEntry.{HashEntry}
 use Rattle.verify_run.specs.declared.loading.LoadError.{LoadError}
@@ -33,21 +33,23 @@ use Rattle.station_cli.specs.declared.words.Command.TheVariants.{Verify}
 use Rattle.station_cli.specs.Words.{command_of, drive_word}
 use Rattle.station_cli.specs.Story.{Story, memory_end, StoryWords, Ran, NoMemory, NoCommand, NoDrive, NoList, NoVerdict, WithVerdict, End, LastLine, NoLine, load_end, verify_end, end_of, outcome_status, EndCalls, EndStatus, Ended, DriveCalls, StoryCalls, StoryCause, StoryTrue, SaidSince, BegunSince, end_lines, Touched, RunCalls, RunOf, RanOn, IsLoadStory, IsOnDrive, RanVerify}
 
--- no call changes a map
-unchanged : (m : Map) (L : List Event) → replayed m L ≡ m
-unchanged m [] = refl
-unchanged m (e ∷ L) = unchanged (changed m e) L
-
-reads_still : (m : Map) (A B : List Event) (d : ℕ) → reads m (A ++ B) d ≡ reads m A d
-reads_still m A B d = reads-append m A B d ∙ unchanged (reads m A d) (calls_on d B)
-
 -- what holds of the map of an honest drive still holds after calls
-still_so : {On : Device → Type 0} {P : List Event → Type 0} {mid new : World} (H : Map → Type 0) (d : ℕ) → Went On P mid new
+still_so : {On : Device → Type 0} {P : List Event → Type 0} {mid new : World} (H : Map → Type 0) (d : ℕ) → ((L : List Event) → P L → NoChange L) → Went On P mid new
     → ((m : Map) (L : List Event) → Honest mid d m L → H (reads m L d)) → (m : Map) (all : List Event) → Honest new d m all → H (reads m all d)
-still_so {On} {P} {mid} {new} H d w before_so m all h =
+still_so {On} {P} {mid} {new} H d keep w before_so m all h =
     let (before, was) = honest_before d m all w h in
     let t = told_since w before all was.events h.events in
-    subst H (sym (reads_still m before t.since d) ∙ ap (λ (l : List Event). reads m l d) (sym t.is)) (before_so m before was)
+    subst H (sym (reads_kept m before t.since d (keep t.since t.such)) ∙ ap (λ (l : List Event). reads m l d) (sym t.is)) (before_so m before was)
+
+-- a line changes nothing, said or not
+say_keeps : (line : List ℕ) (ok : Bool) (L : List Event) → L ≡ Say line ok ∷ [] → NoChange L
+say_keeps line ok L is = subst NoChange (sym is) (no_change_one (Say line ok) refl)
+
+end_keeps : (end : End) (result : ℕ) (L : List Event) → EndCalls end result L → NoChange L
+end_keeps (LastLine line status) result L (inl (is, same)) = say_keeps line true L is
+end_keeps (LastLine line status) result L (inr (inl is, same)) = subst NoChange (sym is) no_change_none
+end_keeps (LastLine line status) result L (inr (inr is, same)) = say_keeps line false L is
+end_keeps (NoLine status) result L (is, same) = subst NoChange (sym is) no_change_none
 
 -- the end of a run, after calls on its drive
 ended_here : (d : ℕ) {end : End} {result : ℕ} {mid new : World} → Ended end result mid new → Went (Here d) (EndCalls end result) mid new
@@ -75,7 +77,7 @@ ran_unloaded d list e result old mid new loaded ended =
       on_drive = tt;
       cause = unloaded_cause old d e (λ same. loaded.cause (ap Err same)) w;
       status = status_since new (load_end e) result loaded.went ended.status;
-      honest = still_so (λ m. LoadGives (get m list) (Err e)) d w loaded.honest;
+      honest = still_so (λ m. LoadGives (get m list) (Err e)) d (end_keeps (load_end e) result) w loaded.honest;
     }
 
 -- what holds after calls, where they are told, may follow from what they were
@@ -146,7 +148,7 @@ ran_verified d list hashes v result old mid new loaded came status =
       cause = tt;
       status = status;
       honest = λ m all h. (
-        still_so (λ map. LoadGives (get map list) (Ok hashes)) d came.answered loaded.honest m all h,
+        still_so (λ map. LoadGives (get map list) (Ok hashes)) d looks_keep came.answered loaded.honest m all h,
         came.numbers m all h,
         said_since d list hashes (report_lines hashes.entries.items (reads m all d) list) all (drive_here d loaded.went) (came.lines m all h) h.events,
       );
@@ -198,9 +200,9 @@ ran_unverified d list hashes e result old mid stop new loaded stopped begun ende
       honest = λ m all h.
           let (at, was) = honest_before d m all w h in
           let t = told_since w at all was.events h.events in
-          let same = reads_still m at t.since d in
+          let same = reads_kept m at t.since d (end_keeps (verify_end e) result t.since t.such) in
           let there : reads m at d ≡ reads m all d = sym same ∙ ap (λ (l : List Event). reads m l d) (sym t.is) in (
-            still_so (λ map. LoadGives (get map list) (Ok hashes)) d later loaded.honest m all h,
+            still_so (λ map. LoadGives (get map list) (Ok hashes)) d (λ L t. subst NoChange (sym t.is) (no_change_append t.first t.second (stops_keep (stopped_at_device d e) t.first t.here) (end_keeps (verify_end e) result t.second t.there))) later loaded.honest m all h,
             subst (λ map. BegunSince (report_first_lines hashes.entries.items map list) (verify_end e) old.events all) there
                 (begun_since d list hashes (report_first_lines hashes.entries.items (reads m at d) list) (verify_end e) result at all load (begun m at was) w was.events h.events),
           );
@@ -214,6 +216,9 @@ made_attached d one m = made_then (λ some was. let n = one some was in record {
 attach_later : {place : List ℕ} {old mid : World} (d : ℕ) → Attaches place (Ok d) old mid → (x : Device) → old.faults x ≤ mid.faults x
 attach_later d a Attaching = a.later
 attach_later d a (Drive e) = let same = a.others (Drive e) (λ is. cc is) in omega (arith, same)
+attach_later d a (Source s) = let same = a.others (Source s) (λ is. cc is) in omega (arith, same)
+attach_later d a Clock = let same = a.others Clock (λ is. cc is) in omega (arith, same)
+attach_later d a Picker = let same = a.others Picker (λ is. cc is) in omega (arith, same)
 attach_later d a Output = let same = a.others Output (λ is. cc is) in omega (arith, same)
 
 attached_rose : {place : List ℕ} {old mid : World} (d : ℕ) (x : Device) (n : ℕ) → Attaches place (Ok d) old mid → Rose (mid.faults x) n → Rose (old.faults x) n
@@ -328,6 +333,9 @@ verify_ran d list place result old mid new a on =
 failed_later : {place : List ℕ} {old mid : World} (e : DeviceFailed) → Attaches place (Err e) old mid → (x : Device) → old.faults x ≤ mid.faults x
 failed_later e a Attaching = a.later
 failed_later e a (Drive d) = let same = a.others (Drive d) (λ is. cc is) in omega (arith, same)
+failed_later e a (Source s) = let same = a.others (Source s) (λ is. cc is) in omega (arith, same)
+failed_later e a Clock = let same = a.others Clock (λ is. cc is) in omega (arith, same)
+failed_later e a Picker = let same = a.others Picker (λ is. cc is) in omega (arith, same)
 failed_later e a Output = let same = a.others Output (λ is. cc is) in omega (arith, same)
 
 failed_status : {place : List ℕ} {old mid : World} (e : DeviceFailed) (new : World) (end : End) (result : ℕ) → Attaches place (Err e) old mid → EndStatus end result mid new → EndStatus end result old new

@@ -6,7 +6,8 @@ use Rattle.bay_core.specs.declared.event.Event.TheVariants.{AttachDrive, AttachF
 use Rattle.bay_core.specs.Map.{Map}
 use Rattle.bay_core.specs.Replay.{Device, Drive, Attaching, Output, reads}
 use Rattle.bay_core.specs.World.{World, Honest, Rose}
-use Rattle.bay_core.specs.Went.{Went, Only, Made, MaySee, SameDrive}
+use Rattle.bay_core.specs.Went.{Went, Only, Made, MaySee}
+use Rattle.bay_core.specs.Attach.{SameDrive}
 use Rattle.bay_core.specs.Looks.{Here, Looks, Stops, Caused, said}
 use Rattle.mhl_reader.specs.declared.values.HashList.{HashList}
 use Rattle.report_text.specs.Line.{failed_attach_drive_text, unreadable_toolarge_text}

@@ -1,9 +1,10 @@
 ghost use Rattle.std.specs.Prelude.{◌≡◌, IfOk};
-ghost use Rattle.bay_core.specs.State.{world_of};
+ghost use Rattle.bay_mem.specs.State.{world_of};
 
 use crate::run::station;
 use crate::words::WordList;
-use bay_core::{DriveGot, Event, MemBay, MemMap};
+use bay_core::{DriveGot, Event};
+use bay_mem::{MemBay, MemMap};
 use std::alloc::{AllocError, Global};
 use std::test::Fail;
 
@@ -32,7 +33,7 @@ const GOOD: &str = "verdict good 1 entries 0 missing 0 altered 0 unchecked 0 unl
 
 // A bay that has these files at the place D.
 fn bay_with(alloc: Global, files: &[(&str, &str)]) -> Result<MemBay, AllocError>
-    ensures { IfOk result (λ bay. (world_of bay).attached.drives ≡ 0) }
+    ensures { IfOk result (λ bay. (world_of bay.seen).attached.drives ≡ 0) }
 {
     let mut map = MemMap::new(alloc);
     for (path, bytes) in files {
@@ -51,7 +52,7 @@ fn words_of(alloc: Global, words: &[&str]) -> Result<WordList, AllocError> {
     Ok(list)
 }
 
-// The calls by a letter each, a failed one by a small letter.
+// A call by a letter, a failed one by a small letter. The commands make no others.
 fn letter(event: &Event) -> char {
     match event {
         Event::AttachDrive { .. } => 'A',
@@ -65,6 +66,7 @@ fn letter(event: &Event) -> char {
         Event::DriveRead { .. } => 'R',
         Event::Say { ok: true, .. } => 'S',
         Event::Say { .. } => 's',
+        _ => '?',
     }
 }
 

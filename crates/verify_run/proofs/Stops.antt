@@ -3,45 +3,44 @@ use Rattle.std.proofs.Common.{◌≡◌, inl, inr, ℕ, true, false, List, [], �
 use Rattle.std.proofs.lemmas.Bool.Decides.{nat_tests}
 use Rattle.std.specs.Prelude.{Option, Some, None, Err, nat_eq}
 use Rattle.bay_core.specs.declared.event.Event.{Event}
-use Rattle.bay_core.specs.declared.event.Event.TheVariants.{AttachDrive, AttachFailed, DriveList, DriveRead, Say}
+use Rattle.bay_core.specs.declared.event.Event.TheVariants.{AttachSource, AttachDrive, AttachFailed, SourceList, SourceRead, DriveList, DriveRead, Write, Sync, Rename, Remove, Moment, Pick, Say}
 use Rattle.bay_core.specs.declared.event.DriveGot.TheVariants.{Failed}
 use Rattle.bay_core.specs.declared.failed.Failed.{Failed as DeviceFailed}
 use Rattle.bay_core.specs.declared.failed.ListError.{ListError}
 use Rattle.bay_core.specs.declared.failed.ListError.TheVariants.{Failed as ListFailed}
 use Rattle.bay_core.specs.Map.{Map}
-use Rattle.bay_core.specs.Replay.{Device, Drive, Output, device_of, calls_on, replayed, reads}
+use Rattle.bay_core.specs.Replay.{Device, Drive, Output, device_of, reads}
 use Rattle.bay_core.specs.World.{World, Honest}
 use Rattle.bay_core.specs.Went.{AllOn, Went, Only, Called, Ran, ReadCall, ListCall, no_fault, say_call}
-use Rattle.bay_core.specs.Looks.{Here, Exactly, Looks, AtMost, Stops, Caused, Stopped, line_of, said}
+use Rattle.bay_core.specs.Looks.{Here, Exactly, Looks, AtMost, Caused, Stopped, line_of, said}
 use Rattle.bay_core.proofs.Runs.{went_then, went_such, went_none, rose_since, told_since}
-use Rattle.bay_core.proofs.Replays.{reads-append}
 use Rattle.bay_core.proofs.Honesty.{honest_before}
-use Rattle.bay_core.proofs.Looking.{drive_here, output_here, looks_append, no_looks, stopped_after, say_failed, said_append}
+use Rattle.bay_core.proofs.Looking.{reads_kept, stops_keep, drive_here, output_here, looks_append, no_looks, stopped_after, say_failed, said_append}
 use Rattle.verify_run.specs.declared.verdict.VerifyError.{VerifyError}
 use Rattle.verify_run.specs.declared.verdict.VerifyError.TheVariants.{DriveFailed, OutFailed}
 use Rattle.verify_run.specs.Calls.{stopped_at_device, Halted, Silent, Begun, Unsaid, LinesStopped}
-
--- no call changes what a drive has
-unchanged : (m : Map) (A : List Event) → replayed m A ≡ m
-unchanged m [] = refl
-unchanged m (e ∷ A) = unchanged m A
-
--- so a run that stopped did not
-reads_stopped : (m : Map) (L A : List Event) (d : ℕ) (at : Option Device) → Stops at A → reads m (L ++ A) d ≡ reads m L d
-reads_stopped m L A d at stops = reads-append m L A d ∙ unchanged (reads m L d) (calls_on d A)
 
 -- before a run that stopped an honest drive was honest, with the same map
 pub stopped_before : (d : ℕ) (at : Option Device) (m : Map) (L : List Event) {old new : World} → Stopped d at old new → Honest new d m L → (before : List Event) × Honest old d m before × (reads m L d ≡ reads m before d)
 stopped_before d at m L s h =
     let b = honest_before d m L s.went h in
     let t = told_since s.went b.0 L b.1.events h.events in
-    (b.0, b.1, ap (λ K. reads m K d) t.is ∙ reads_stopped m b.0 t.since d at t.such)
+    (b.0, b.1, ap (λ K. reads m K d) t.is ∙ reads_kept m b.0 t.since d (stops_keep at t.since t.such))
 
 no_line : (d : ℕ) (e : Event) → device_of e ≡ Drive d → line_of e ≡ []
+no_line d (AttachSource s place) is = refl
 no_line d (AttachDrive e place) is = refl
 no_line d (AttachFailed place) is = refl
 no_line d (DriveList e got) is = refl
 no_line d (DriveRead e path at want got) is = refl
+no_line d (SourceList s got) is = refl
+no_line d (SourceRead s path at want got) is = refl
+no_line d (Write e path at bytes ok) is = refl
+no_line d (Sync e ok) is = refl
+no_line d (Rename e from to ok) is = refl
+no_line d (Remove e path ok) is = refl
+no_line d (Moment t) is = refl
+no_line d (Pick n) is = refl
 no_line d (Say line ok) is = absurd (cc is)
 
 no_lines : (d : ℕ) (L : List Event) → AllOn (Only (Drive d)) L → said L ≡ []

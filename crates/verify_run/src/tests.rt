@@ -1,8 +1,9 @@
 ghost use Rattle.std.specs.Prelude.{◌≡◌, ◌<◌, IfOk};
-ghost use Rattle.bay_core.specs.State.{world_of};
+ghost use Rattle.bay_mem.specs.State.{world_of};
 
 use super::*;
-use bay_core::{Bay, DriveGot, Event, MemBay, MemMap};
+use bay_core::{Bay, DriveGot, Event};
+use bay_mem::{MemBay, MemMap};
 use mhl_reader::ReadError;
 use path_text::PathText;
 use std::alloc::{AllocError, Global};
@@ -33,7 +34,7 @@ const GOOD: &str = "verdict good 1 entries 0 missing 0 altered 0 unchecked 0 unl
 
 // A bay with drive 0, which has the list at x.mhl and these files.
 fn bay_with(alloc: Global, files: &[(&str, &str)]) -> Result<MemBay, Fail>
-    ensures { IfOk result (λ bay. 0 < (world_of bay).attached.drives) }
+    ensures { IfOk result (λ bay. 0 < (world_of bay.seen).attached.drives) }
 {
     let mut map = MemMap::new(alloc);
     map.add("x.mhl", LIST.as_bytes(), 0)?;
@@ -58,6 +59,7 @@ fn said(alloc: Global, bay: &MemBay) -> Result<Vec<u8>, AllocError> {
     Ok(lines)
 }
 
+// A call by a letter, a failed one by a small letter. A verification makes no others.
 fn letter(event: &Event) -> char {
     match event {
         Event::AttachDrive { .. } => 'A',
@@ -71,10 +73,11 @@ fn letter(event: &Event) -> char {
         Event::Say { .. } => 's',
         Event::DriveList { .. } => 'l',
         Event::AttachFailed { .. } => 'a',
+        _ => '?',
     }
 }
 
-// The calls by their letters, a failed one by a small letter.
+// The calls by their letters.
 fn calls(alloc: Global, bay: &MemBay) -> Result<String, AllocError> {
     let mut letters = String::new(alloc);
     for event in bay.events() {
@@ -168,20 +171,29 @@ fn a_drive_is_verified(rt: HostRuntime) -> Result<(), Fail> {
     Ok(())
 }
 
-#[test]
-fn a_verification_stops_at_a_failed_call(rt: HostRuntime) -> Result<(), Fail> {
-    let alloc = rt.alloc();
+// How a verification ends of which the n-th call fails, and all calls, those of the loading before it.
+fn stopped(alloc: Global, n: u64) -> Result<(Result<Verdict, VerifyError>, String), Fail> {
     let mut bay = bay_with(alloc, &[("a.mov", "abd")])?;
     let own = PathText::read(alloc, "x.mhl")?;
     let list = load_list(alloc, &mut bay, 0, &own)?;
-    assert_eq!(rt; calls(alloc, &bay)?.as_str(), "ALRR");
-    bay.fail_call(3)?;
-    let unread = verify(alloc, &mut bay, 0, &list, &own);
-    assert_eq!(rt; unread, Err(VerifyError::DriveFailed));
-    assert_eq!(rt; calls(alloc, &bay)?.as_str(), "ALRRLRr");
-    bay.fail_call(5)?;
-    let unsaid = verify(alloc, &mut bay, 0, &list, &own);
-    assert_eq!(rt; unsaid, Err(VerifyError::OutFailed));
-    assert_eq!(rt; calls(alloc, &bay)?.as_str(), "ALRRLRrLRRSs");
+    bay.fail_call(n)?;
+    let end = verify(alloc, &mut bay, 0, &list, &own);
+    Ok((end, calls(alloc, &bay)?))
+}
+
+#[test]
+fn a_verification_stops_at_a_failed_call(rt: HostRuntime) -> Result<(), Fail> {
+    let rows = [
+        (1, VerifyError::DriveFailed, "ALRRl"),
+        (2, VerifyError::DriveFailed, "ALRRLr"),
+        (3, VerifyError::DriveFailed, "ALRRLRr"),
+        (4, VerifyError::OutFailed, "ALRRLRRs"),
+        (5, VerifyError::OutFailed, "ALRRLRRSs"),
+    ];
+    for (n, error, wanted) in rows {
+        let (end, calls) = stopped(rt.alloc(), n)?;
+        assert_eq!(rt; end, Err(error), "{n}");
+        assert_eq!(rt; calls.as_str(), wanted);
+    }
     Ok(())
 }

@@ -1,0 +1,9 @@
+pub mod Trees
+pub mod Keeping
+pub mod Becoming
+pub mod Worlds
+pub mod Shown
+pub mod Attaching
+pub mod Blames
+pub mod Leaving
+pub mod Standing

@@ -1,0 +1,4 @@
+use Rattle.bay_mem.proofs.changes.try_write.Goals as goal
+
+pub returns-clause-made : goal.returns-clause-made
+returns-clause-made c = c.in_ok-write_file.ensures.ok c.args.d
