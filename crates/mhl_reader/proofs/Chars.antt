@@ -3,8 +3,8 @@ use Rattle.std.proofs.Common.{◌≡◌, ◌⊎◌, ℕ, zero, suc, ◌≤◌, z
 use Rattle.std.specs.Prelude.{IsTrue, is_some}
 use Rattle.std.proofs.lemmas.Bool.{eqb-true, cases_eq, ne_eqb}
 use Rattle.path_text.specs.Path.{is_path}
-use Rattle.path_text.specs.Note.{is_note}
-use Rattle.mhl_reader.specs.ListText.{escape, escaped}
+use Rattle.mhl_writer.specs.Note.{is_note}
+use Rattle.mhl_writer.specs.ListText.{escape, escaped}
 use Rattle.mhl_reader.specs.Taking.{◌>>=◌, strip}
 use Rattle.mhl_reader.specs.Reading.{char_at, unescape, path_of, note_of, tested}
 use Rattle.mhl_reader.proofs.Parts.{Inner, bind_some, chosen, which, some_is, HasNoLt}

@@ -7,7 +7,7 @@ use Rattle.std.proofs.lemmas.Slice.Eq.{bytes_eq-Decides}
 use Rattle.hex.specs.Hex.{decode_sized, encode_lower, encode_with, lower_digits, hex_digit_value, IsBytes}
 use Rattle.hex.specs.declared.error.FromHexError.{FromHexError}
 use Rattle.hex.proofs.HexLemmas.{IsDigits-lower_digits, decode_sized-ok, decode_sized-twice, decode_of-ok, decode_sized-encode_lower}
-use Rattle.mhl_reader.specs.ListText.{IsDigest}
+use Rattle.mhl_writer.specs.ListText.{IsDigest}
 use Rattle.mhl_reader.specs.Reading.{digest_of}
 use Rattle.mhl_reader.proofs.Parts.{Inner, HasNoLt, bind_some, chosen, some_is}
 

@@ -1,13 +1,13 @@
 -- How long the text of a path or a note is at most.
-use Rattle.std.proofs.Common.{◌≡◌, ℕ, ◌-◌, ◌*◌, ◌<◌, ◌≤◌, ◌==◌, Bool, true, false, cond, not, ◌&&◌, eqb, nat_le, nat_lt, List, [], ◌∷◌, length, slice_index, Option, Some, None, refl, ap, arith, length-append}
+use Rattle.std.proofs.Common.{◌≡◌, ℕ, ◌*◌, ◌<◌, ◌≤◌, ◌==◌, Bool, true, false, cond, eqb, nat_lt, List, [], ◌∷◌, length, Option, Some, None, refl, ap, arith, length-append}
 use Rattle.std.specs.Prelude.{is_none}
 use Rattle.std.specs.Str.{is_utf8}
-use Rattle.std.proofs.lemmas.Bool.{leb-true, ltb-false}
+use Rattle.std.proofs.lemmas.Bool.{ltb-false}
 use Rattle.path_text.specs.declared.path.PathError.{PathError}
 use Rattle.path_text.specs.declared.path.PathError.TheVariants as paths
 use Rattle.path_text.specs.Path.{is_path, refusal_of}
-use Rattle.path_text.specs.Note.{is_note, is_note_rule, is_clean}
-use Rattle.mhl_reader.specs.ListText.{escape, escaped}
+use Rattle.mhl_writer.proofs.Notes.{is_note-short}
+use Rattle.mhl_writer.specs.ListText.{escape, escaped}
 use Rattle.mhl_reader.specs.Reading.{path_of, note_of}
 use Rattle.mhl_reader.proofs.Parts.{none_from, and_true}
 use Rattle.mhl_reader.proofs.Chars.{path_inner, note_inner}
@@ -36,17 +36,6 @@ is_path-short : (text : List ℕ) → is_path text ≡ true → length text ≤ 
 unfolding is_path refusal_of
 is_path-short text h =
     ltb-false 1024 (length text) (second (length text == 0) (nat_lt 1024 (length text)) paths.Empty (paths.TooLong (length text)) _ (and_true (is_utf8 text) (is_none (refusal_of text)) h).1)
-
-two : (a b c d e : Bool) → (a && b && c && d && e) ≡ true → b ≡ true
-two true true c d e h = refl
-two true false c d e h = absurd cc
-two false b c d e h = absurd cc
-
--- and a note 256
-is_note-short : (text : List ℕ) → is_note text ≡ true → length text ≤ 256
-unfolding is_note
-is_note-short text h =
-    leb-true (length text) 256 (two (nat_le 1 (length text)) (nat_le (length text) 256) (is_clean text) (not (slice_index text 0 == 32)) (not (slice_index text (length text - 1) == 32)) (and_true (is_utf8 text) (is_note_rule text) h).1)
 
 pub path_too_long : (bytes : List ℕ) → 5120 < length bytes → path_of bytes ≡ None
 path_too_long bytes long = none_from (path_of bytes) (λ x e.

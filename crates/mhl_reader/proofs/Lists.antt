@@ -1,21 +1,21 @@
 -- The two laws of lists: what is read is spelled so, and what is spelled so is read.
 use Rattle.std.proofs.Common.{◌≡◌, ◌≢◌, ℕ, zero, suc, ◌^◌, ◌<◌, ◌≤◌, Bool, true, false, cond, eqb, List, [], ◌∷◌, ◌++◌, length, Option, Some, None, refl, sym, ap, subst, ◌∙◌, append_assoc, arith, codes, inl, inr, ◌↔◌}
-use Rattle.std.specs.Prelude.{IsTrue, IsSomeAnd, is_some}
+use Rattle.std.specs.Prelude.{IsTrue, IfSome, IsSomeAnd, is_some}
 use Rattle.std.specs.List.{flat_map, AllByRecursion, IsDistinct}
 use Rattle.std.specs.Str.{bytes_eq}
 use Rattle.std.proofs.lemmas.Bool.{eqb-true}
 use Rattle.std.proofs.lemmas.List.{nil_from_length}
 use Rattle.path_text.specs.Path.{is_path}
-use Rattle.path_text.specs.Note.{is_note}
+use Rattle.mhl_writer.specs.Note.{is_note}
 use Rattle.path_text.specs.Moment.{last_moment}
-use Rattle.mhl_reader.specs.ListText.{part, file_line, size_line, modified_line, md5_line, hashed_line, name_line, username_line, hostname_line, tool_line, started_line, finished_line, entry_text, creator_text, head, list_text, Values, paths_of, IsDigest, IsWholeEntry, IsWholeCreator, IsCanonical}
-use Rattle.mhl_reader.specs.declared.values.HashEntry.{HashEntry}
-use Rattle.mhl_reader.specs.declared.values.Creator.{Creator}
+use Rattle.mhl_writer.specs.ListText.{part, file_line, size_line, modified_line, md5_line, sha1_line, xxh_line, hashed_line, name_line, username_line, hostname_line, tool_line, started_line, finished_line, entry_text, creator_text, first_lines, tail_text, list_text, Values, paths_of, IsDigest, IsWholeEntry, IsWholeCreator, IsCanonical}
+use Rattle.mhl_writer.specs.declared.values.HashEntry.{HashEntry}
+use Rattle.mhl_writer.specs.declared.values.Creator.{Creator}
 use Rattle.mhl_reader.specs.declared.error.ReadError.{ReadError}
 use Rattle.mhl_reader.specs.declared.error.ReadError.TheVariants as errors
 use Rattle.mhl_reader.specs.Taking.{◌>>=◌, Fails, strip}
-use Rattle.mhl_reader.specs.Reading.{EntryParts, entry_parts_at, entry_from, entry_at, entries_at, CreatorParts, creator_parts_at, creator_from, creator_at, list_of}
-use Rattle.mhl_reader.proofs.Parts.{bind_some, which, some_is, chosen, strip_takes, strip_again, in_turn, Exact, line_exact, behind_exact, ending_exact, both_exact, made_exact}
+use Rattle.mhl_reader.specs.Reading.{EntryParts, entry_parts_at, have_digest, entry_from, entry_at, entries_at, CreatorParts, creator_parts_at, creator_from, creator_at, list_of}
+use Rattle.mhl_reader.proofs.Parts.{bind_some, which, some_is, chosen, strip_takes, strip_again, in_turn, Exact, line_exact, behind_exact, ending_exact, both_exact, part_exact, kept_exact, made_exact}
 use Rattle.mhl_reader.proofs.Chars.{path_inner, note_inner}
 use Rattle.mhl_reader.proofs.Numbers.{number_inner}
 use Rattle.mhl_reader.proofs.Dates.{moment_inner}
@@ -43,10 +43,33 @@ text_back None P h = absurd h
 -- ---- an entry
 
 abbrev GoodEntry : EntryParts → Type 0
-GoodEntry p = IsTrue (is_path p.0) × ((p.1.0 < 2 ^ 64) × ((p.1.1.0 ≤ last_moment) × (IsDigest 16 p.1.1.1.0 × (p.1.1.1.1 ≤ last_moment))))
+GoodEntry p = IsTrue (is_path p.0) × ((p.1.0 < 2 ^ 64) × ((p.1.1.0 ≤ last_moment) × (IfSome p.1.1.1.0 (IsDigest 16) × (IfSome p.1.1.1.1.0 (IsDigest 20) × (IfSome p.1.1.1.1.1.0 (IsDigest 8) × (p.1.1.1.1.1.1 ≤ last_moment))))))
+
+abbrev WholeEntry : EntryParts → Type 0
+WholeEntry p = GoodEntry p × IsTrue (have_digest p)
 
 abbrev entry_parts_text : EntryParts → List ℕ
-entry_parts_text p = codes "  <hash>\n" ++ (file_line p.0 ++ (size_line p.1.0 ++ (modified_line p.1.1.0 ++ (md5_line p.1.1.1.0 ++ (hashed_line p.1.1.1.1 ++ codes "  </hash>\n")))))
+entry_parts_text p =
+    codes "  <hash>\n" ++ (file_line p.0 ++ (size_line p.1.0 ++ (modified_line p.1.1.0 ++ (part md5_line p.1.1.1.0 ++ (part sha1_line p.1.1.1.1.0 ++ (part xxh_line p.1.1.1.1.1.0 ++ (hashed_line p.1.1.1.1.1.1 ++ codes "  </hash>\n")))))))
+
+-- what follows a digest is no such line
+abbrev from_hashed : ℕ → List ℕ
+from_hashed t = hashed_line t ++ codes "  </hash>\n"
+
+not_xxh : (t : ℕ) (rest : List ℕ) → strip (codes "    <xxhash64be>") (from_hashed t ++ rest) ≡ None
+unfolding strip
+not_xxh t rest = refl
+
+not_sha1 : (xxh : Option (List ℕ)) (t : ℕ) (rest : List ℕ) → strip (codes "    <sha1>") ((part xxh_line xxh ++ from_hashed t) ++ rest) ≡ None
+unfolding strip
+not_sha1 (Some d) t rest = refl
+not_sha1 None t rest = refl
+
+not_md5 : (sha1 xxh : Option (List ℕ)) (t : ℕ) (rest : List ℕ) → strip (codes "    <md5>") ((part sha1_line sha1 ++ (part xxh_line xxh ++ from_hashed t)) ++ rest) ≡ None
+unfolding strip
+not_md5 (Some d) xxh t rest = refl
+not_md5 None (Some d) t rest = refl
+not_md5 None None t rest = refl
 
 entry_parts_exact : Exact GoodEntry entry_parts_text entry_parts_at
 unfolding entry_parts_at
@@ -55,27 +78,44 @@ entry_parts_exact =
     (both_exact (line_exact path_inner (codes "    <file>") (codes "</file>\n") (codes "/file>\n") refl)
     (both_exact (line_exact number_inner (codes "    <size>") (codes "</size>\n") (codes "/size>\n") refl)
     (both_exact (line_exact moment_inner (codes "    <lastmodificationdate>") (codes "</lastmodificationdate>\n") (codes "/lastmodificationdate>\n") refl)
-    (both_exact (line_exact (digest_inner 16) (codes "    <md5>") (codes "</md5>\n") (codes "/md5>\n") refl)
-    (ending_exact (codes "  </hash>\n") (line_exact moment_inner (codes "    <hashdate>") (codes "</hashdate>\n") (codes "/hashdate>\n") refl))))))
+    (part_exact (digest_inner 16) (codes "    <md5>") (codes "</md5>\n") (codes "/md5>\n") refl
+    (part_exact (digest_inner 20) (codes "    <sha1>") (codes "</sha1>\n") (codes "/sha1>\n") refl
+    (part_exact (digest_inner 8) (codes "    <xxhash64be>") (codes "</xxhash64be>\n") (codes "/xxhash64be>\n") refl
+    (ending_exact (codes "  </hash>\n") (line_exact moment_inner (codes "    <hashdate>") (codes "</hashdate>\n") (codes "/hashdate>\n") refl))
+    (λ t rest good. not_xxh t rest))
+    (λ p rest good. not_sha1 p.0 p.1 rest))
+    (λ p rest good. not_md5 p.0 p.1.0 p.1.1 rest)))))
 
 abbrev parts_from : HashEntry → EntryParts
-parts_from e = (e.path, (the_number e.size, (the_number e.modified, (the_text e.md5, the_number e.hashed))))
+parts_from e = (e.path, (the_number e.size, (the_number e.modified, (e.md5, (e.sha1, (e.xxh, the_number e.hashed))))))
 
-entry_there : (x : EntryParts) → GoodEntry x → IsWholeEntry (entry_from x) × (entry_parts_text x ≡ entry_text (entry_from x))
+entry_there : (x : EntryParts) → WholeEntry x → IsWholeEntry (entry_from x) × (entry_parts_text x ≡ entry_text (entry_from x))
 unfolding entry_text
-entry_there x good = (record { path = good.0; size = good.1.0; modified = good.1.1.0; md5 = good.1.1.1.0; hashed = good.1.1.1.1 }, refl)
+entry_there x whole =
+    let good = whole.0 in (
+      record {
+        path = good.0;
+        size = good.1.0;
+        modified = good.1.1.0;
+        hashed = good.1.1.1.1.1.1;
+        md5 = good.1.1.1.0;
+        sha1 = good.1.1.1.1.0;
+        xxh = good.1.1.1.1.1.0;
+        digest = whole.1;
+      },
+      refl,
+    )
 
-entry_back : (e : HashEntry) → IsWholeEntry e → GoodEntry (parts_from e) × (entry_from (parts_from e) ≡ e)
+entry_back : (e : HashEntry) → IsWholeEntry e → WholeEntry (parts_from e) × (entry_from (parts_from e) ≡ e)
 entry_back e good =
     let size = number_back e.size (λ n. n < 2 ^ 64) good.size in
     let modified = number_back e.modified (λ t. t ≤ last_moment) good.modified in
-    let md5 = text_back e.md5 (IsDigest 16) good.md5 in
     let hashed = number_back e.hashed (λ t. t ≤ last_moment) good.hashed in
-    ((good.path, (size.0, (modified.0, (md5.0, hashed.0)))), rw (size.1, modified.1, md5.1, hashed.1) refl)
+    (((good.path, (size.0, (modified.0, (good.md5, (good.sha1, (good.xxh, hashed.0)))))), good.digest), rw (size.1, modified.1, hashed.1) refl)
 
 pub entry_exact : Exact IsWholeEntry entry_text entry_at
 unfolding entry_at
-entry_exact = made_exact IsWholeEntry entry_text entry_from parts_from entry_parts_exact entry_there entry_back
+entry_exact = made_exact IsWholeEntry entry_text entry_from parts_from (kept_exact have_digest entry_parts_exact) entry_there entry_back
 
 -- ---- the creator
 
@@ -121,7 +161,7 @@ creator_exact = made_exact IsWholeCreator creator_text creator_from creator_part
 
 -- what an entry's text begins with
 entry_lines : HashEntry → List ℕ
-entry_lines e = file_line e.path ++ (part size_line e.size ++ (part modified_line e.modified ++ (part md5_line e.md5 ++ (part hashed_line e.hashed ++ codes "  </hash>\n"))))
+entry_lines e = file_line e.path ++ (part size_line e.size ++ (part modified_line e.modified ++ (part md5_line e.md5 ++ (part sha1_line e.sha1 ++ (part xxh_line e.xxh ++ (part hashed_line e.hashed ++ codes "  </hash>\n"))))))
 
 begins_entry : (e : HashEntry) (rest : List ℕ) → strip (codes "  <hash>\n") (entry_text e ++ rest) ≡ Some (entry_lines e ++ rest)
 unfolding strip entry_text entry_lines
@@ -173,27 +213,30 @@ pub list_takes : (bytes : List ℕ) (l : Values) → list_of bytes ≡ Some l �
 unfolding list_of
 list_takes bytes l e =
     let made_of = λ (c : Creator) (es : List HashEntry). (let v : Values = record { creator = c; entries = es } in v) in
-    let a = bind_some (strip head bytes) (λ start. creator_at start >>= λ creator. entries_at 262144 creator.1 >>= λ entries. strip (codes "</hashlist>\n") entries.1 >>= λ rest. cond (eqb (length rest) 0) (Some (made_of creator.0 entries.0)) None) l e in
-    let b = bind_some (creator_at a.0) (λ creator. entries_at 262144 creator.1 >>= λ entries. strip (codes "</hashlist>\n") entries.1 >>= λ rest. cond (eqb (length rest) 0) (Some (made_of creator.0 entries.0)) None) l a.2 in
-    let c = bind_some (entries_at 262144 b.0.1) (λ entries. strip (codes "</hashlist>\n") entries.1 >>= λ rest. cond (eqb (length rest) 0) (Some (made_of b.0.0 entries.0)) None) l b.2 in
-    let d = bind_some (strip (codes "</hashlist>\n") c.0.1) (λ rest. cond (eqb (length rest) 0) (Some (made_of b.0.0 c.0.0)) None) l c.2 in
+    let a = bind_some (strip first_lines bytes) (λ start. creator_at start >>= λ creator. entries_at 262144 creator.1 >>= λ entries. strip tail_text entries.1 >>= λ rest. cond (eqb (length rest) 0) (Some (made_of creator.0 entries.0)) None) l e in
+    let b = bind_some (creator_at a.0) (λ creator. entries_at 262144 creator.1 >>= λ entries. strip tail_text entries.1 >>= λ rest. cond (eqb (length rest) 0) (Some (made_of creator.0 entries.0)) None) l a.2 in
+    let c = bind_some (entries_at 262144 b.0.1) (λ entries. strip tail_text entries.1 >>= λ rest. cond (eqb (length rest) 0) (Some (made_of b.0.0 entries.0)) None) l b.2 in
+    let d = bind_some (strip tail_text c.0.1) (λ rest. cond (eqb (length rest) 0) (Some (made_of b.0.0 c.0.0)) None) l c.2 in
     let g = chosen (eqb (length d.0) 0) (Some (made_of b.0.0 c.0.0)) l d.2 in
     let none : d.0 ≡ [] = nil_from_length d.0 (eqb-true (length d.0) 0 g.0) in
-    let tail = codes "</hashlist>\n" in
+    let tail = tail_text in
     let t1 = creator_exact.takes a.0 b.0.0 b.0.1 b.1 in
     let t2 = entries_take 262144 b.0.1 c.0 c.1 in
     let end : c.0.1 ≡ tail = in_turn tail c.0.1 d.0 [] (strip_takes tail c.0.1 d.0 d.1) none in
     let rows : b.0.1 ≡ flat_map entry_text c.0.0 ++ tail = in_turn (flat_map entry_text c.0.0) b.0.1 c.0.1 tail t2.0 end in
     let body : a.0 ≡ creator_text b.0.0 ++ (flat_map entry_text c.0.0 ++ tail) = in_turn (creator_text b.0.0) a.0 b.0.1 (flat_map entry_text c.0.0 ++ tail) t1.0 rows in
-    let whole : bytes ≡ list_text (made_of b.0.0 c.0.0) = in_turn head bytes a.0 (creator_text b.0.0 ++ (flat_map entry_text c.0.0 ++ tail)) (strip_takes head bytes a.0 a.1) body in
+    let whole : bytes ≡ list_text (made_of b.0.0 c.0.0) = in_turn first_lines bytes a.0 (creator_text b.0.0 ++ (flat_map entry_text c.0.0 ++ tail)) (strip_takes first_lines bytes a.0 a.1) body in
     is_that bytes (made_of b.0.0 c.0.0) l (some_is (made_of b.0.0 c.0.0) l g.1) (record { creator = t1.1; entries = t2.1; few = t2.2 }) whole
 
-pub list_again : (l : Values) → IsWhole l → list_of (list_text l) ≡ Some l
+spelled_again : (creator : Creator) (entries : List HashEntry) → IsWholeCreator creator → AllByRecursion IsWholeEntry entries → length entries ≤ 262144
+    → list_of (first_lines ++ (creator_text creator ++ (flat_map entry_text entries ++ tail_text))) ≡ Some (record { creator = creator; entries = entries })
 unfolding list_of
-list_again l good =
-    let tail = codes "</hashlist>\n" in
-    let at_tail : strip tail tail ≡ Some [] = strip_again tail [] in
-    rw (strip_again head (creator_text l.creator ++ (flat_map entry_text l.entries ++ tail)), creator_exact.again l.creator (flat_map entry_text l.entries ++ tail) good.creator, entries_again 262144 l.entries tail good.entries good.few (not_entry []), at_tail) refl
+spelled_again creator entries whole all few =
+    let at_tail : strip tail_text tail_text ≡ Some [] = strip_again tail_text [] in
+    rw (strip_again first_lines (creator_text creator ++ (flat_map entry_text entries ++ tail_text)), creator_exact.again creator (flat_map entry_text entries ++ tail_text) whole, entries_again 262144 entries tail_text all few (not_entry []), at_tail) refl
+
+pub list_again : (l : Values) → IsWhole l → list_of (list_text l) ≡ Some l
+list_again l good = ap list_of (append_assoc first_lines (creator_text l.creator) (flat_map entry_text l.entries ++ tail_text)) ∙ spelled_again l.creator l.entries good.creator good.entries good.few
 
 -- ---- the answers
 

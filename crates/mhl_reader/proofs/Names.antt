@@ -6,7 +6,7 @@ use Rattle.std.proofs.lemmas.Str.{IsUtf8-from_is_utf8}
 use Rattle.path_text.specs.declared.path.PathError.{PathError}
 use Rattle.path_text.specs.declared.path.PathError.TheVariants as paths
 use Rattle.path_text.specs.Path.{is_path, refusal_of, PathRead}
-use Rattle.path_text.specs.Note.{is_note, is_note_rule}
+use Rattle.mhl_writer.specs.Note.{is_note, is_note_rule}
 use Rattle.path_text.proofs.Texts.{is_path-text}
 use Rattle.mhl_reader.specs.Taking.{Fails}
 use Rattle.mhl_reader.specs.Reading.{unescape, path_of, note_of, from_path_error}

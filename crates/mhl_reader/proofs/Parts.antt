@@ -1,10 +1,10 @@
 -- Parts that are read exactly: what is taken is spelled so, and what is spelled so is taken.
-use Rattle.std.proofs.Common.{◌≡◌, ◌≢◌, ◌⊎◌, inl, inr, ℕ, Bool, true, false, cond, not, ◌&&◌, eqb, List, [], ◌∷◌, ◌++◌, Option, Some, None, refl, sym, ap, subst, ◌∙◌, append_assoc}
-use Rattle.std.specs.Prelude.{IsTrue}
+use Rattle.std.proofs.Common.{◌≡◌, ◌≢◌, ◌⊎◌, inl, inr, ℕ, Bool, true, false, cond, not, ◌&&◌, eqb, List, [], ◌∷◌, ◌++◌, Option, Some, None, refl, sym, ap, subst, ◌∙◌, append_assoc, if◌then◌else◌}
+use Rattle.std.specs.Prelude.{IsTrue, IfSome, is_some}
 use Rattle.std.specs.List.{list_all}
 use Rattle.std.proofs.lemmas.Bool.{not-true, eqb-true, eq-eqb}
-use Rattle.mhl_reader.specs.ListText.{line}
-use Rattle.mhl_reader.specs.Taking.{◌>>=◌, strip, before_lt, from_lt, text_at, line_at, behind, ending, both, made}
+use Rattle.mhl_writer.specs.ListText.{line, part}
+use Rattle.mhl_reader.specs.Taking.{◌>>=◌, strip, before_lt, from_lt, text_at, line_at, part_text_at, part_of, part_at, behind, ending, both, made, kept}
 
 pub bind_some : {A B : Type 0} (r : Option A) (f : A → Option B) (y : B) → (r >>= f) ≡ Some y → (x : A) × (r ≡ Some x) × (f x ≡ Some y)
 bind_some (Some x) f y e = (x, refl, e)
@@ -158,6 +158,82 @@ both_exact {A} {B} {GoodA} {GoodB} {spellA} {spellB} {a} {b} first second = reco
       let whole : bytes ≡ (spellA x.0.0 ++ spellB y.0.0) ++ y.0.1 = two_in_turn (spellA x.0.0) (spellB y.0.0) bytes x.0.1 y.0.1 s.0 t.0 in
       subst (λ (q : (A × B) × List ℕ). (bytes ≡ (spellA q.0.0 ++ spellB q.0.1) ++ q.1) × (GoodA q.0.0 × GoodB q.0.1)) (some_is ((x.0.0, y.0.0), y.0.1) (p, rest) y.2) (whole, (s.1, t.1));
   again = λ p rest good. rw (append_assoc (spellA p.0) (spellB p.1) rest, first.again p.0 (spellB p.1 ++ rest) good.0, second.again p.1 rest good.1) refl;
+}
+
+-- ---- a line that may be left out
+
+abbrev line_of : {A : Type 0} → (A → List ℕ) → List ℕ → List ℕ → A → List ℕ
+line_of spell opening closing x = line opening (spell x) closing
+
+abbrev with_rest : {B : Type 0} → List ℕ → B → Option (B × List ℕ)
+with_rest rest x = Some (x, rest)
+
+abbrev is_there : {A : Type 0} → A × List ℕ → Option (Option A × List ℕ)
+is_there x = Some (Some x.0, x.1)
+
+regroup : {A : Type 0} (o : Option A) (rest : List ℕ) → ((o >>= λ x. some (some x)) >>= with_rest rest) ≡ ((o >>= with_rest rest) >>= is_there)
+regroup (Some x) rest = refl
+regroup None rest = refl
+
+joined : {A : Type 0} (of : List ℕ → Option A) (begins : Bool) (text : Option (List ℕ × List ℕ)) (bytes : List ℕ)
+    → ((if begins then (text >>= is_there) else some (None, bytes)) >>= λ t. part_of of t.0 >>= with_rest t.1)
+    ≡ (if begins then ((text >>= λ t. of t.0 >>= with_rest t.1) >>= is_there) else some (None, bytes))
+joined of true (Some t) bytes = regroup (of t.0) t.1
+joined of true None bytes = refl
+joined of false text bytes = refl
+
+-- the line, where the bytes begin with it
+part_at_is : {A : Type 0} (of : List ℕ → Option A) (opening closing bytes : List ℕ)
+    → part_at opening of closing bytes ≡ (if is_some (strip opening bytes) then (line_at opening of closing bytes >>= λ x. Some (Some x.0, x.1)) else Some (None, bytes))
+unfolding part_at part_text_at line_at
+part_at_is of opening closing bytes = joined of (is_some (strip opening bytes)) (text_at opening closing bytes) bytes
+
+part_takes : {A : Type 0} {Good : A → Type 0} {spell : A → List ℕ} {of : List ℕ → Option A} → Inner Good spell of → (opening closing tail : List ℕ) → closing ≡ 60 ∷ tail
+    → (bytes : List ℕ) (x : Option A) (rest : List ℕ) → part_at opening of closing bytes ≡ Some (x, rest) → (bytes ≡ part (line_of spell opening closing) x ++ rest) × IfSome x Good
+part_takes {A} {Good} {spell} {of} inner opening closing tail lt bytes x rest e =
+    let at_true = λ (e : (line_at opening of closing bytes >>= λ x. Some (Some x.0, x.1)) ≡ Some (x, rest)).
+    let a = bind_some (line_at opening of closing bytes) (λ x. Some (Some x.0, x.1)) (x, rest) e in
+    let t = (line_exact inner opening closing tail lt).takes bytes a.0.0 a.0.1 a.1 in
+    subst (λ (q : Option A × List ℕ). (bytes ≡ part (line_of spell opening closing) q.0 ++ q.1) × IfSome q.0 Good) (some_is (Some a.0.0, a.0.1) (x, rest) a.2) t in
+    let at_false = λ (e : some (None, bytes) ≡ Some (x, rest)).
+    subst (λ (q : Option A × List ℕ). (bytes ≡ part (line_of spell opening closing) q.0 ++ q.1) × IfSome q.0 Good) (some_is (None, bytes) (x, rest) e) (refl, tt) in
+    elim (which {X = Option (Option A × List ℕ)} (is_some (strip opening bytes)) (line_at opening of closing bytes >>= λ x. Some (Some x.0, x.1)) (Some (None, bytes)) (Some (x, rest)) (sym (part_at_is of opening closing bytes) ∙ e)) [ inl h ↦ at_true h.1 | inr h ↦ at_false h.1 ]
+
+part_again : {A : Type 0} {Good : A → Type 0} {spell : A → List ℕ} {of : List ℕ → Option A} → Inner Good spell of → (opening closing tail : List ℕ) → closing ≡ 60 ∷ tail
+    → (x : Option A) (rest : List ℕ) → IfSome x Good → strip opening rest ≡ None → part_at opening of closing (part (line_of spell opening closing) x ++ rest) ≡ Some (x, rest)
+part_again {of = of} inner opening closing tail lt None rest good other = part_at_is of opening closing rest ∙ rw other refl
+part_again {spell = spell} {of = of} inner opening closing tail lt (Some x) rest good other =
+    let begins : strip opening (line opening (spell x) closing ++ rest) ≡ Some ((spell x ++ closing) ++ rest) = rw (append_assoc opening (spell x ++ closing) rest) (strip_again opening ((spell x ++ closing) ++ rest)) in
+    part_at_is of opening closing (line opening (spell x) closing ++ rest) ∙ rw (begins, (line_exact inner opening closing tail lt).again x rest good) refl
+
+-- where what follows does not begin so
+pub part_exact : {A B : Type 0} {Good : A → Type 0} {GoodB : B → Type 0} {spell : A → List ℕ} {spellB : B → List ℕ} {of : List ℕ → Option A} {b : List ℕ → Option (B × List ℕ)}
+    → (inner : Inner Good spell of) → (opening closing tail : List ℕ) → closing ≡ 60 ∷ tail → Exact GoodB spellB b → ((y : B) (rest : List ℕ) → GoodB y → strip opening (spellB y ++ rest) ≡ None)
+    → Exact (λ (p : Option A × B). IfSome p.0 Good × GoodB p.1) (λ (p : Option A × B). part (λ x. line opening (spell x) closing) p.0 ++ spellB p.1) (both (part_at opening of closing) b)
+part_exact {A} {B} {Good} {GoodB} {spell} {spellB} {of} {b} inner opening closing tail lt second other = record {
+  takes = λ bytes p rest e.
+      let x = bind_some (part_at opening of closing bytes) (λ x. b x.1 >>= λ y. Some ((x.0, y.0), y.1)) (p, rest) e in
+      let y = bind_some (b x.0.1) (λ y. Some ((x.0.0, y.0), y.1)) (p, rest) x.2 in
+      let s = part_takes inner opening closing tail lt bytes x.0.0 x.0.1 x.1 in
+      let t = second.takes x.0.1 y.0.0 y.0.1 y.1 in
+      let text = part (line_of spell opening closing) x.0.0 in
+      let whole : bytes ≡ (text ++ spellB y.0.0) ++ y.0.1 = two_in_turn text (spellB y.0.0) bytes x.0.1 y.0.1 s.0 t.0 in
+      subst (λ (q : (Option A × B) × List ℕ). (bytes ≡ (part (line_of spell opening closing) q.0.0 ++ spellB q.0.1) ++ q.1) × (IfSome q.0.0 Good × GoodB q.0.1)) {x = ((x.0.0, y.0.0), y.0.1)} (some_is ((x.0.0, y.0.0), y.0.1) (p, rest) y.2) (whole, (s.1, t.1));
+  again = λ p rest good.
+      let text = part (line_of spell opening closing) p.0 in
+      rw (append_assoc text (spellB p.1) rest, part_again inner opening closing tail lt p.0 (spellB p.1 ++ rest) good.0 (other p.1 rest good.1), second.again p.1 rest good.1) refl;
+}
+
+-- ---- what passes a test
+
+pub kept_exact : {A : Type 0} {Good : A → Type 0} {spell : A → List ℕ} {at : List ℕ → Option (A × List ℕ)} → (test : A → Bool) → Exact Good spell at → Exact (λ x. Good x × IsTrue (test x)) spell (kept test at)
+kept_exact {A} {Good} {spell} {at} test exact = record {
+  takes = λ bytes x rest e.
+      let a = bind_some (at bytes) (λ x. if test x.0 then Some x else None) (x, rest) e in
+      let g = chosen (test a.0.0) (Some a.0) (x, rest) a.2 in
+      let t = exact.takes bytes a.0.0 a.0.1 a.1 in
+      subst (λ (p : A × List ℕ). (bytes ≡ spell p.0 ++ p.1) × (Good p.0 × IsTrue (test p.0))) (some_is a.0 (x, rest) g.1) (t.0, (t.1, g.0));
+  again = λ x rest good. rw (exact.again x rest good.0, good.1) refl;
 }
 
 -- the same values in another form

@@ -10,8 +10,8 @@ use Rattle.std.proofs.lemmas.List.{map-append, take_more, drop_more, take-append
 use Rattle.std.proofs.lemmas.List.Folds.{list_any-append}
 use Rattle.std.proofs.lemmas.Map.Keys.{IsDistinct-push, IsDistinct-head, IsDistinct-tail}
 use Rattle.std.proofs.lemmas.Map.Text.{is_eq-slice_cmp}
-use Rattle.mhl_reader.specs.declared.values.HashEntry.{HashEntry}
-use Rattle.mhl_reader.specs.ListText.{paths_of}
+use Rattle.mhl_writer.specs.declared.values.HashEntry.{HashEntry}
+use Rattle.mhl_writer.specs.ListText.{paths_of}
 
 -- the set has the paths, of which no two are the same
 pub record HasSeen (paths : List (List ℕ)) (seen : BTreeSet (Bor (List ℕ))) : Type 0 where

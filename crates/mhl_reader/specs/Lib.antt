@@ -1,3 +1,2 @@
-pub mod ListText
 pub mod Taking
 pub mod Reading

@@ -1,5 +1,5 @@
 -- Reading the canonical text of a list from the front.
-use Rattle.std.specs.Prelude.{ℕ, zero, suc, ◌^◌, Bool, List, [], ◌∷◌, length, Option, Some, None, ◌==◌, ◌&&◌, codes, decimal, nat_lt, is_some, if◌then◌else◌}
+use Rattle.std.specs.Prelude.{ℕ, zero, suc, ◌^◌, Bool, List, [], ◌∷◌, length, Option, Some, None, ◌==◌, ◌&&◌, ◌||◌, codes, decimal, nat_lt, is_some, if◌then◌else◌}
 use Rattle.std.specs.Result.{result_ok}
 use Rattle.std.specs.Str.{bytes_eq}
 use Rattle.std.specs.Str.Parse.{digits_value}
@@ -7,14 +7,14 @@ use Rattle.hex.specs.Hex.{decode_sized, encode_lower}
 use Rattle.path_text.specs.declared.path.PathError.{PathError}
 use Rattle.path_text.specs.declared.path.PathError.TheVariants as paths
 use Rattle.path_text.specs.Path.{is_path}
-use Rattle.path_text.specs.Note.{is_note}
+use Rattle.mhl_writer.specs.Note.{is_note}
 use Rattle.path_text.specs.Moment.{moment_of}
-use Rattle.mhl_reader.specs.ListText.{Values, head}
+use Rattle.mhl_writer.specs.ListText.{Values, first_lines, tail_text}
 use Rattle.mhl_reader.specs.declared.error.ReadError.{ReadError}
 use Rattle.mhl_reader.specs.declared.error.ReadError.TheVariants.{NotYet, Memory}
-use Rattle.mhl_reader.specs.declared.values.HashEntry.{HashEntry}
-use Rattle.mhl_reader.specs.declared.values.Creator.{Creator}
-use Rattle.mhl_reader.specs.Taking.{◌>>=◌, strip, line_at, behind, ending, both, made}
+use Rattle.mhl_writer.specs.declared.values.HashEntry.{HashEntry}
+use Rattle.mhl_writer.specs.declared.values.Creator.{Creator}
+use Rattle.mhl_reader.specs.Taking.{◌>>=◌, strip, line_at, part_at, behind, ending, both, made, kept}
 
 -- what a refused path means for the text that it stands in
 abbrev pub from_path_error : PathError → ReadError
@@ -59,7 +59,7 @@ digest_of n bytes = result_ok (decode_sized bytes n) >>= λ digest. if bytes_eq 
 
 -- what an entry holds, in the order of its lines
 abbrev pub EntryParts : Type 0
-EntryParts = List ℕ × (ℕ × (ℕ × (List ℕ × ℕ)))
+EntryParts = List ℕ × (ℕ × (ℕ × (Option (List ℕ) × (Option (List ℕ) × (Option (List ℕ) × ℕ)))))
 
 unfoldable pub entry_parts_at : List ℕ → Option (EntryParts × List ℕ)
 entry_parts_at =
@@ -67,14 +67,28 @@ entry_parts_at =
     (both (line_at (codes "    <file>") path_of (codes "</file>\n"))
     (both (line_at (codes "    <size>") number_of (codes "</size>\n"))
     (both (line_at (codes "    <lastmodificationdate>") moment_of (codes "</lastmodificationdate>\n"))
-    (both (line_at (codes "    <md5>") (digest_of 16) (codes "</md5>\n"))
-    (ending (codes "  </hash>\n") (line_at (codes "    <hashdate>") moment_of (codes "</hashdate>\n")))))))
+    (both (part_at (codes "    <md5>") (digest_of 16) (codes "</md5>\n"))
+    (both (part_at (codes "    <sha1>") (digest_of 20) (codes "</sha1>\n"))
+    (both (part_at (codes "    <xxhash64be>") (digest_of 8) (codes "</xxhash64be>\n"))
+    (ending (codes "  </hash>\n") (line_at (codes "    <hashdate>") moment_of (codes "</hashdate>\n")))))))))
+
+-- one of the digests is there
+abbrev pub have_digest : EntryParts → Bool
+have_digest p = is_some p.1.1.1.0 || (is_some p.1.1.1.1.0 || is_some p.1.1.1.1.1.0)
 
 abbrev pub entry_from : EntryParts → HashEntry
-entry_from p = record { path = p.0; size = Some p.1.0; modified = Some p.1.1.0; hashed = Some p.1.1.1.1; md5 = Some p.1.1.1.0 }
+entry_from p = record {
+  path = p.0;
+  size = Some p.1.0;
+  modified = Some p.1.1.0;
+  hashed = Some p.1.1.1.1.1.1;
+  md5 = p.1.1.1.0;
+  sha1 = p.1.1.1.1.0;
+  xxh = p.1.1.1.1.1.0;
+}
 
 unfoldable pub entry_at : List ℕ → Option (HashEntry × List ℕ)
-entry_at = made entry_from entry_parts_at
+entry_at = made entry_from (kept have_digest entry_parts_at)
 
 -- so many entries at most
 unfoldable pub entries_at : ℕ → List ℕ → Option (List HashEntry × List ℕ)
@@ -104,8 +118,8 @@ creator_at = made creator_from creator_parts_at
 -- all of the bytes, whatever the paths
 unfoldable pub list_of : List ℕ → Option Values
 list_of bytes = do
-  start ← strip head bytes
+  start ← strip first_lines bytes
   creator ← creator_at start
   entries ← entries_at 262144 creator.1
-  rest ← strip (codes "</hashlist>\n") entries.1
+  rest ← strip tail_text entries.1
   if length rest == 0 then Some (record { creator = creator.0; entries = entries.0 }) else None

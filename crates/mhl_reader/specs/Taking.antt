@@ -1,5 +1,5 @@
 -- Reading parts from the front: a value and the bytes after it, or nothing.
-use Rattle.std.specs.Prelude.{◌≡◌, ℕ, List, [], ◌∷◌, Option, Some, None, Result, Ok, Err, ◌==◌, if◌then◌else◌}
+use Rattle.std.specs.Prelude.{◌≡◌, ℕ, List, [], ◌∷◌, Option, Some, None, Bool, Result, Ok, Err, ◌==◌, is_some, if◌then◌else◌}
 use Rattle.mhl_reader.specs.declared.error.ReadError.{ReadError}
 use Rattle.mhl_reader.specs.declared.error.ReadError.TheVariants.{NotYet, Memory}
 
@@ -45,6 +45,22 @@ line_at opening of closing bytes = do
   x ← of text.0
   Some (x, text.1)
 
+-- the text of a line that may be left out
+unfoldable pub part_text_at : List ℕ → List ℕ → List ℕ → Option (Option (List ℕ) × List ℕ)
+part_text_at opening closing bytes = if is_some (strip opening bytes) then (text_at opening closing bytes >>= λ x. Some (Some x.0, x.1)) else Some (None, bytes)
+
+-- the value of a text that is there
+abbrev pub part_of : {A : Type 0} → (List ℕ → Option A) → Option (List ℕ) → Option (Option A)
+part_of of None = Some None
+part_of of (Some text) = of text >>= λ x. Some (Some x)
+
+-- such a line whose text is that of a value
+unfoldable pub part_at : {A : Type 0} → List ℕ → (List ℕ → Option A) → List ℕ → List ℕ → Option (Option A × List ℕ)
+part_at opening of closing bytes = do
+  text ← part_text_at opening closing bytes
+  x ← part_of of text.0
+  Some (x, text.1)
+
 -- a fixed text before, or behind; two in a row; another form of the value
 abbrev pub behind : {A : Type 0} → List ℕ → (List ℕ → Option (A × List ℕ)) → List ℕ → Option (A × List ℕ)
 behind text at bytes = strip text bytes >>= at
@@ -63,3 +79,7 @@ both a b bytes = do
 
 abbrev pub made : {A B : Type 0} → (A → B) → (List ℕ → Option (A × List ℕ)) → List ℕ → Option (B × List ℕ)
 made to at bytes = at bytes >>= λ x. Some (to x.0, x.1)
+
+-- what passes a test
+abbrev pub kept : {A : Type 0} → (A → Bool) → (List ℕ → Option (A × List ℕ)) → List ℕ → Option (A × List ℕ)
+kept test at bytes = at bytes >>= λ x. if test x.0 then Some x else None

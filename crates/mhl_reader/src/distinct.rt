@@ -2,9 +2,9 @@
 ghost use Rattle.std.specs.Prelude.{IfOk, IsTrue, ◌↔◌};
 ghost use Rattle.std.specs.List.{IsDistinct};
 ghost use Rattle.std.specs.Str.{bytes_eq};
-ghost use Rattle.mhl_reader.specs.ListText.{paths_of};
+ghost use Rattle.mhl_writer.specs.ListText.{paths_of};
 
-use crate::values::HashEntry;
+use mhl_writer::HashEntry;
 use std::alloc::{AllocError, Global};
 use std::collections::BTreeSet;
 

@@ -1,14 +1,15 @@
 //! The values that the text between two tags stands for.
-ghost use Rattle.std.specs.Prelude.{◌≡◌, ◌*◌, ◌≤◌, IfOk, length};
+ghost use Rattle.std.specs.Prelude.{◌≡◌, ◌*◌, ◌≤◌, IfOk, length, option_map};
 ghost use Rattle.path_text.specs.Moment.{moment_of};
-ghost use Rattle.mhl_reader.specs.Taking.{Gives};
+ghost use Rattle.mhl_reader.specs.Taking.{Gives, part_of};
 ghost use Rattle.mhl_reader.specs.Reading.{char_at, unescape, path_of, note_of, number_of, digest_of};
 
 use crate::error::ReadError;
 use crate::taking::begins;
 use hex::FromHex;
 use itoa::Buffer;
-use path_text::{Moment, NoteText, PathText};
+use mhl_writer::NoteText;
+use path_text::{Moment, PathText};
 use std::alloc::Global;
 
 // The most bytes that a path and a note are written with: five for each byte of theirs.
@@ -113,8 +114,8 @@ pub fn moment(bytes: &[u8]) -> Result<Moment, ReadError>
     }
 }
 
-/// The digest that hexadecimal digits in lower case are. The digits are written again into `again`.
-pub fn digest<const N: usize>(bytes: &[u8], again: &mut [u8]) -> Result<[u8; N], ReadError>
+// The digest that hexadecimal digits in lower case are. The digits are written again into `again`.
+fn digest<const N: usize>(bytes: &[u8], again: &mut [u8]) -> Result<[u8; N], ReadError>
     requires { length again.old ≡ 2 * N }
     ensures { Gives (λ x. x) result (digest_of N bytes.now) }
 {
@@ -128,5 +129,19 @@ pub fn digest<const N: usize>(bytes: &[u8], again: &mut [u8]) -> Result<[u8; N],
         Ok(digest)
     } else {
         Err(ReadError::NotYet)
+    }
+}
+
+/// The digest that such digits are, where there are any.
+pub fn digest_part<const N: usize>(
+    text: Option<&[u8]>,
+    again: &mut [u8],
+) -> Result<Option<[u8; N]>, ReadError>
+    requires { length again.old ≡ 2 * N }
+    ensures { Gives (λ x. x) result (part_of (digest_of N) (option_map (λ t. t.now) text.entry)) }
+{
+    match text {
+        Some(bytes) => Ok(Some(digest(bytes, again)?)),
+        None => Ok(None),
     }
 }

@@ -1,4 +1,4 @@
-//! Hash lists as values, and the reader of their one canonical text.
+//! The reader of the one canonical text of a hash list.
 #![tactic(auto)]
 
 mod distinct;
@@ -6,11 +6,9 @@ mod error;
 mod leaves;
 mod reading;
 mod taking;
-mod values;
 
 pub use error::ReadError;
 pub use reading::{one_list, read_list};
-pub use values::{Creator, HashEntry, HashList};
 
 #[cfg(test)]
 mod tests;

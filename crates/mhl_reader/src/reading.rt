@@ -1,18 +1,24 @@
 //! Reads the canonical text of a list.
 ghost use Rattle.std.specs.Prelude.{◌≡◌, ◌≢◌, IfOk, IfErr, MatchResult};
-ghost use Rattle.mhl_reader.specs.ListText.{Values, IsCanonical, list_text, values_of};
+ghost use Rattle.mhl_writer.specs.ListText.{Values, IsCanonical, has_digest, list_text, values_of};
 ghost use Rattle.mhl_reader.specs.Taking.{Gives};
 ghost use Rattle.mhl_reader.specs.Reading.{entry_at, entries_at, creator_at, list_of};
 
 use crate::distinct::has_distinct_paths;
 use crate::error::ReadError;
-use crate::leaves::{digest, moment, note, number, path};
-use crate::taking::{after, begins, line};
-use crate::values::{Creator, HashEntry, HashList};
+use crate::leaves::{digest_part, moment, note, number, path};
+use crate::taking::{after, begins, line, part};
+use mhl_writer::{Creator, HashEntry, HashList};
 use std::alloc::Global;
 
 // The most entries that a list has.
 const MAX_ENTRIES: u32 = 262_144;
+
+fn has_digest(entry: &HashEntry) -> bool
+    ensures { result ≡ has_digest entry.now }
+{
+    entry.md5.is_some() || entry.sha1.is_some() || entry.xxh.is_some()
+}
 
 fn entry(alloc: Global, bytes: &[u8]) -> Result<(HashEntry, &[u8]), ReadError>
     ensures { Gives (λ x. (x.0, x.1.now)) result (entry_at bytes.now) }
@@ -28,21 +34,29 @@ fn entry(alloc: Global, bytes: &[u8]) -> Result<(HashEntry, &[u8]), ReadError>
         b"</lastmodificationdate>\n",
     )?;
     let modified = moment(text)?;
-    let (text, rest) = line(rest, b"    <md5>", b"</md5>\n")?;
-    let md5 = digest::<16>(text, &mut [0; 32])?;
+    let (text, rest) = part(rest, b"    <md5>", b"</md5>\n")?;
+    let md5 = digest_part::<16>(text, &mut [0; 32])?;
+    let (text, rest) = part(rest, b"    <sha1>", b"</sha1>\n")?;
+    let sha1 = digest_part::<20>(text, &mut [0; 40])?;
+    let (text, rest) = part(rest, b"    <xxhash64be>", b"</xxhash64be>\n")?;
+    let xxh = digest_part::<8>(text, &mut [0; 16])?;
     let (text, rest) = line(rest, b"    <hashdate>", b"</hashdate>\n")?;
     let hashed = moment(text)?;
     let rest = after(rest, b"  </hash>\n")?;
-    Ok((
-        HashEntry {
-            path,
-            size: Some(size),
-            modified: Some(modified),
-            hashed: Some(hashed),
-            md5: Some(md5),
-        },
-        rest,
-    ))
+    let entry = HashEntry {
+        path,
+        size: Some(size),
+        modified: Some(modified),
+        hashed: Some(hashed),
+        md5,
+        sha1,
+        xxh,
+    };
+    if has_digest(&entry) {
+        Ok((entry, rest))
+    } else {
+        Err(ReadError::NotYet)
+    }
 }
 
 fn creator(alloc: Global, bytes: &[u8]) -> Result<(Creator, &[u8]), ReadError>

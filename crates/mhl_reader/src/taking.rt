@@ -1,7 +1,7 @@
 //! Parts from the front of the bytes.
 
-ghost use Rattle.std.specs.Prelude.{◌≡◌, is_some};
-ghost use Rattle.mhl_reader.specs.Taking.{Gives, strip, before_lt, from_lt, text_at};
+ghost use Rattle.std.specs.Prelude.{◌≡◌, is_some, option_map};
+ghost use Rattle.mhl_reader.specs.Taking.{Gives, strip, before_lt, from_lt, text_at, part_text_at};
 
 use crate::error::ReadError;
 
@@ -51,4 +51,20 @@ pub fn line<'a>(
     let (front, rest) = cut(text);
     let rest = after(rest, closing)?;
     Ok((front, rest))
+}
+
+/// The text of one line, where the bytes begin with it, and the bytes behind the line.
+#[tactic(auto, unfolding(crate::specs::Taking::part_text_at))]
+pub fn part<'a>(
+    bytes: &'a [u8],
+    opening: &[u8],
+    closing: &[u8],
+) -> Result<(Option<&'a [u8]>, &'a [u8]), ReadError>
+    ensures { Gives (λ x. (option_map (λ t. t.now) x.0, x.1.now)) result (part_text_at opening.now closing.now bytes.now) }
+{
+    if !begins(bytes, opening) {
+        return Ok((None, bytes));
+    }
+    let (text, rest) = line(bytes, opening, closing)?;
+    Ok((Some(text), rest))
 }

@@ -2,8 +2,7 @@
 use Rattle.std.proofs.Common.{◌≡◌, ℕ, zero, suc, ◌+◌, ◌-◌, ◌≤◌, ◌<◌, true, false, ◌∙◌, ap, add-one, arith}
 use Rattle.std.specs.Prelude.{Option, Some, None, cond, List}
 use Rattle.std.specs.Option.{option_or}
-use Rattle.path_text.specs.Places.{first_below, is_refused}
-use Rattle.path_text.specs.Note.{refused_at}
+use Rattle.path_text.specs.Places.{first_below, is_refused, refused_at}
 
 -- below one place more
 pub first_below-next : {A : Type 0} (f : ℕ → Option A) (n : ℕ) → first_below f n ≡ None → first_below f (n + 1) ≡ f n

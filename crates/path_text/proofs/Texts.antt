@@ -2,11 +2,10 @@
 use Rattle.std.proofs.Common.{◌≡◌, ◌≤◌, true, false, cond, length, refl, sym, ◌∙◌, ap, subst, arith}
 use Rattle.std.proofs.lemmas.Bool.Decides.{nat_tests}
 use Rattle.path_text.specs.declared.path.PathError.{PathError}
-use Rattle.std.specs.Prelude.{Bool, List, ℕ, nat_lt, ◌==◌, ◌&&◌, not, IsTrue, is_none, is_some, Option, Some, None, if◌then◌else◌}
+use Rattle.std.specs.Prelude.{Bool, List, ℕ, nat_lt, ◌==◌, ◌&&◌, not, IsTrue, is_none, is_some, Option, Some, None}
 use Rattle.std.specs.Str.{IsUtf8}
 use Rattle.std.proofs.lemmas.Str.{is_utf8-from_IsUtf8}
 use Rattle.path_text.specs.Path.{is_path, refusal_of, is_control_path}
-use Rattle.path_text.specs.Note.{is_note, is_note_rule}
 
 both : (a b : Bool) → a ≡ true → (a && b) ≡ b
 both a b is = ap (λ x. x && b) is
@@ -14,10 +13,6 @@ both a b is = ap (λ x. x && b) is
 pub is_path-text : (text : List ℕ) → IsUtf8 text → is_path text ≡ is_none (refusal_of text)
 unfolding is_path
 is_path-text text utf8 = both _ _ (is_utf8-from_IsUtf8 text utf8)
-
-pub is_note-text : (text : List ℕ) → IsUtf8 text → is_note text ≡ is_note_rule text
-unfolding is_note
-is_note-text text utf8 = both _ _ (is_utf8-from_IsUtf8 text utf8)
 
 -- a control path, by the two tests
 pub control_name : (text : List ℕ) (valid : Bool) → IsUtf8 text → valid ≡ is_none (refusal_of text) → true ≡ is_control_path text → valid ≡ (is_path text && is_control_path text)
@@ -37,15 +32,6 @@ no_control_name text control = sym (ap (λ b. is_path text && b) (sym control) �
 -- what a text keeps, where it is read again
 pub path_holds : (inside given value : List ℕ) → IsUtf8 given → given ≡ inside → inside ≡ value → refusal_of inside ≡ None → IsTrue (is_path value)
 path_holds inside given value utf8 same is none = rw (← is) (subst (λ t. IsTrue (is_path t)) same (is_path-text given utf8 ∙ ap (λ t. is_none (refusal_of t)) same ∙ ap is_none none))
-
-pub note_holds : (inside given value : List ℕ) → IsUtf8 given → given ≡ inside → inside ≡ value → IsTrue (is_note_rule inside) → IsTrue (is_note value)
-note_holds inside given value utf8 same is rule = rw (← is) (subst (λ t. IsTrue (is_note t)) same (is_note-text given utf8 ∙ ap is_note_rule same ∙ rule))
-
-pub choose_true : (b : Bool) (x : List ℕ) → b ≡ true → Some x ≡ (if b then Some x else None)
-choose_true b x is = sym (ap (λ c. (if c then Some x else None)) is)
-
-pub choose_false : (b : Bool) (x : List ℕ) → b ≡ false → None ≡ (if b then Some x else None)
-choose_false b x is = sym (ap (λ c. (if c then Some x else None)) is)
 
 pub none_if_not_some : {A : Type 0} (b : Bool) (o : Option A) → is_some o ≡ not b → b ≡ is_none o
 none_if_not_some true None e = refl

@@ -1,4 +1,3 @@
 pub mod Places
 pub mod Path
-pub mod Note
 pub mod Moment

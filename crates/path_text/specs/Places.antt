@@ -1,5 +1,5 @@
 -- Places in a text, counted in bytes from its start.
-use Rattle.std.specs.Prelude.{ℕ, zero, suc, ◌+◌, ◌-◌, Bool, ◌&&◌, ◌||◌, ◌==◌, List, length, slice_index, nat_lt, nat_le, Option, None}
+use Rattle.std.specs.Prelude.{ℕ, zero, suc, ◌+◌, ◌-◌, Bool, cond, ◌&&◌, ◌||◌, ◌==◌, List, length, slice_index, nat_lt, nat_le, Option, Some, None, is_none}
 use Rattle.std.specs.Option.{option_or}
 
 -- what is said of the first of the places below n of which something is said
@@ -13,6 +13,14 @@ abbrev pub is_refused : List ℕ → ℕ → Bool
 is_refused text k = nat_lt k (length text)
     && (nat_lt (slice_index text k) 32 || slice_index text k == 127
     || (slice_index text k == 0xEF && slice_index text (k + 1) == 0xBF && (slice_index text (k + 2) == 0xBE || slice_index text (k + 2) == 0xBF)))
+
+-- the place, where a refused character begins there
+abbrev pub refused_at : List ℕ → ℕ → Option ℕ
+refused_at text k = cond (is_refused text k) (Some k) None
+
+-- no refused character in it
+abbrev pub is_clean : List ℕ → Bool
+is_clean text = is_none (first_below (refused_at text) (length text))
 
 -- a part between slashes begins here
 abbrev pub begins_part : List ℕ → ℕ → Bool

@@ -35,15 +35,17 @@ pub fn add_number(out: &mut Scratch, number: u64)
     add(out, buffer.format(number).as_bytes());
 }
 
-/// Adds a digest in lower case digits.
-pub fn add_digest(out: &mut Scratch, digest: &[u8; 16])
-    requires { length out.old ≤ 2015 }
+/// Adds a digest of at most 20 bytes in lower case digits.
+pub fn add_digest(out: &mut Scratch, digest: &[u8])
+    requires room { length out.old ≤ 2006 }
+    requires digest { length digest.now ≤ 20 }
     ensures text { out.new ≡ out.old ++ 32 ∷ encode_lower digest.now }
-    ensures len { length out.new ≤ length out.old + 33 }
+    ensures len { length out.new ≤ length out.old + 41 }
 {
-    let mut digits = [0u8; 32];
-    match hex::encode_to_slice(digest.as_slice(), &mut digits) {
-        Ok(()) => add(out, &digits),
+    let mut digits = [0u8; 40];
+    let digits = &mut digits[..2 * digest.len()];
+    match hex::encode_to_slice(digest, digits) {
+        Ok(()) => add(out, digits),
         Err(_) => unreachable!(),
     }
 }

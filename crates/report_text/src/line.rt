@@ -1,6 +1,7 @@
 ghost use Rattle.std.specs.Prelude.{◌≡◌, ◌+◌, ◌≤◌, ◌++◌, [], ◌∷◌, length, decimal};
+ghost use Rattle.hex.specs.Hex.{encode_lower};
 ghost use Rattle.report_text.specs.declared.line.Line.TheVariants.{Memory};
-ghost use Rattle.report_text.specs.Line.{fields, line_text, altered_size_text, altered_md5_text, IsShort};
+ghost use Rattle.report_text.specs.Line.{fields, line_text, altered_size_text, IsShort};
 
 use crate::fields::{add, add_digest, add_number, begin};
 use path_text::Scratch;
@@ -20,6 +21,10 @@ pub enum Line<'a> {
     AlteredSize(u64, u64, &'a str),
     /// `altered md5 LISTED FOUND PATH`.
     AlteredMd5([u8; 16], [u8; 16], &'a str),
+    /// `altered sha1 LISTED FOUND PATH`.
+    AlteredSha1([u8; 20], [u8; 20], &'a str),
+    /// `altered xxhash64be LISTED FOUND PATH`.
+    AlteredXxh([u8; 8], [u8; 8], &'a str),
     /// `verdict V E entries M missing A altered U unchecked X unlisted`, V being `good`, `bad` or `unchecked`.
     Verdict(&'a str, u64, u64, u64, u64, u64),
     /// `refused words`: the words fit no command.
@@ -77,12 +82,16 @@ fn altered_size(out: &mut Scratch, listed: u64, found: u64, path: &str)
     add(out, path.as_bytes());
 }
 
-fn altered_md5(out: &mut Scratch, listed: &[u8; 16], found: &[u8; 16], path: &str)
-    requires { length path.now ≤ 1024 }
-    ensures text { out.new ≡ altered_md5_text listed.now found.now path.now }
+// A line of its fixed words, two digests and a path.
+fn altered_digest(out: &mut Scratch, words: &[u8], listed: &[u8], found: &[u8], path: &str)
+    requires words { length words.now ≤ 32 }
+    requires listed { length listed.now ≤ 20 }
+    requires found { length found.now ≤ 20 }
+    requires path { length path.now ≤ 1024 }
+    ensures text { out.new ≡ fields words.now (encode_lower listed.now ∷ encode_lower found.now ∷ path.now ∷ []) }
     ensures len { length out.new ≤ 2048 }
 {
-    begin(out, b"altered md5");
+    begin(out, words);
     add_digest(out, listed);
     add_digest(out, found);
     add(out, path.as_bytes());
@@ -110,7 +119,15 @@ pub fn line_into(line: &Line<'_>, out: &mut Scratch)
         Line::Unchecked(path) => with_path(out, b"unchecked", path),
         Line::Unlisted(path) => with_path(out, b"unlisted", path),
         Line::AlteredSize(listed, found, path) => altered_size(out, *listed, *found, path),
-        Line::AlteredMd5(listed, found, path) => altered_md5(out, listed, found, path),
+        Line::AlteredMd5(listed, found, path) => {
+            altered_digest(out, b"altered md5", listed, found, path)
+        }
+        Line::AlteredSha1(listed, found, path) => {
+            altered_digest(out, b"altered sha1", listed, found, path)
+        }
+        Line::AlteredXxh(listed, found, path) => {
+            altered_digest(out, b"altered xxhash64be", listed, found, path)
+        }
         Line::Verdict(word, entries, missing, altered, unchecked, unlisted) => {
             begin(out, b"verdict");
             add(out, word.as_bytes());
@@ -181,6 +198,22 @@ mod tests {
             &mut out,
             &Line::AlteredMd5(ABC, EMPTY, "s.mov"),
             "altered md5 900150983cd24fb0d6963f7d28e17f72 d41d8cd98f00b204e9800998ecf8427e s.mov",
+        );
+        says(
+            &rt,
+            &mut out,
+            &Line::AlteredSha1([0xa9; 20], [0x01; 20], "t.mov"),
+            "altered sha1 a9a9a9a9a9a9a9a9a9a9a9a9a9a9a9a9a9a9a9a9 0101010101010101010101010101010101010101 t.mov",
+        );
+        says(
+            &rt,
+            &mut out,
+            &Line::AlteredXxh(
+                [0xef, 0x46, 0xdb, 0x37, 0x51, 0xd8, 0xe9, 0x99],
+                [0; 8],
+                "u.mov",
+            ),
+            "altered xxhash64be ef46db3751d8e999 0000000000000000 u.mov",
         );
         says(&rt, &mut out, &Line::RefusedWords, "refused words");
         says(

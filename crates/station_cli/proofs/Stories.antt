@@ -17,8 +17,8 @@ use Rattle.bay_core.specs.Looks.{NoChange, Looks, says, Here, Stopped, Caused, S
 use Rattle.bay_core.proofs.Runs.{made_then, all_on, went_then, went_such, since_made, rose_still, rose_since, told_since}
 use Rattle.bay_core.proofs.Honesty.{honest_before}
 use Rattle.bay_core.proofs.Looking.{reads_kept, no_change_append, no_change_none, no_change_one, looks_keep, stops_keep, drive_here, output_here, said_append, said_tiles, looks_append, one_look, says_looks}
-use Rattle.mhl_reader.specs.declared.values.HashList.{HashList}
-use Rattle.mhl_reader.specs.declared.values.HashEntry.{HashEntry}
+use Rattle.mhl_writer.specs.declared.values.HashList.{HashList}
+use Rattle.mhl_writer.specs.declared.values.HashEntry.{HashEntry}
 use Rattle.verify_run.specs.declared.loading.LoadError.{LoadError}
 use Rattle.verify_run.specs.declared.loading.LoadError.TheVariants.{DriveFailed, Absent, TooLarge, Unreadable, Memory}
 use Rattle.verify_run.specs.declared.verdict.VerifyError.{VerifyError}

@@ -9,7 +9,7 @@ use Rattle.bay_core.specs.World.{World, Honest, Rose}
 use Rattle.bay_core.specs.Went.{Went, Only, Made, MaySee}
 use Rattle.bay_core.specs.Attach.{SameDrive}
 use Rattle.bay_core.specs.Looks.{Here, Looks, Stops, Caused, said}
-use Rattle.mhl_reader.specs.declared.values.HashList.{HashList}
+use Rattle.mhl_writer.specs.declared.values.HashList.{HashList}
 use Rattle.report_text.specs.Line.{failed_attach_drive_text, unreadable_toolarge_text}
 use Rattle.verify_run.specs.declared.loading.LoadError.{LoadError}
 use Rattle.verify_run.specs.declared.loading.LoadError.TheVariants.{DriveFailed, Absent, TooLarge, Unreadable, Memory}

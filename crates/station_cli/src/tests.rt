@@ -141,6 +141,98 @@ fn drives_are_verified(rt: HostRuntime) -> Result<(), Fail> {
     Ok(())
 }
 
+// A list with these entries.
+fn list_of(alloc: Global, entries: &str) -> Result<String, Fail> {
+    let Some((head, _)) = LIST.split_once("  <hash>\n") else {
+        return Ok(String::new(alloc));
+    };
+    Ok(format!(in alloc; "{head}{entries}</hashlist>\n")?)
+}
+
+// An entry, with its digests by their lines.
+fn entry(alloc: Global, path: &str, size: u64, digests: &str) -> Result<String, Fail> {
+    Ok(format!(in alloc;
+        "  <hash>\n    <file>{path}</file>\n    <size>{size}</size>\n    <lastmodificationdate>2014-10-24T00:00:00Z</lastmodificationdate>\n{digests}    <hashdate>2014-10-24T12:00:00Z</hashdate>\n  </hash>\n"
+    )?)
+}
+
+// The digests of `abc`, each by its line.
+const MD5: &str = "    <md5>900150983cd24fb0d6963f7d28e17f72</md5>\n";
+
+const SHA1: &str = "    <sha1>a9993e364706816aba3e25717850c26c9cd0d89d</sha1>\n";
+
+const XXH: &str = "    <xxhash64be>44bc2cf5ad770999</xxhash64be>\n";
+
+#[test]
+fn each_value_that_differs_has_its_line(rt: HostRuntime) -> Result<(), Fail> {
+    let alloc = rt.alloc();
+    let both = format!(in alloc; "{MD5}{SHA1}")?;
+    let mut entries = entry(alloc, "m.mov", 3, MD5)?;
+    entries.push_str(&entry(alloc, "s.mov", 3, MD5)?)?;
+    entries.push_str(&entry(alloc, "t.mov", 0, &both)?)?;
+    let list = list_of(alloc, &entries)?;
+    let files = [
+        ("x.mhl", list.as_str()),
+        ("s.mov", ""),
+        ("t.mov", ""),
+        ("u.mov", ""),
+    ];
+    assert_eq!(rt;
+        run(alloc, &files, &VERIFY, 0)?.as_str(),
+        "ALRRLSRSSRSSSS
+missing m.mov
+altered size 3 0 s.mov
+altered md5 900150983cd24fb0d6963f7d28e17f72 d41d8cd98f00b204e9800998ecf8427e s.mov
+altered md5 900150983cd24fb0d6963f7d28e17f72 d41d8cd98f00b204e9800998ecf8427e t.mov
+altered sha1 a9993e364706816aba3e25717850c26c9cd0d89d da39a3ee5e6b4b0d3255bfef95601890afd80709 t.mov
+unlisted u.mov
+verdict bad 3 entries 1 missing 2 altered 0 unchecked 1 unlisted
+1"
+    );
+    Ok(())
+}
+
+#[test]
+fn each_kind_of_digest_is_checked(rt: HostRuntime) -> Result<(), Fail> {
+    let alloc = rt.alloc();
+    for (md5, sha1, xxh) in [
+        (MD5, "", ""),
+        ("", SHA1, ""),
+        ("", "", XXH),
+        (MD5, SHA1, ""),
+        (MD5, "", XXH),
+        ("", SHA1, XXH),
+        (MD5, SHA1, XXH),
+    ] {
+        let digests = format!(in alloc; "{md5}{sha1}{xxh}")?;
+        let list = list_of(alloc, &entry(alloc, "a.mov", 3, &digests)?)?;
+        let whole = run(
+            alloc,
+            &[("x.mhl", list.as_str()), ("a.mov", "abc")],
+            &VERIFY,
+            0,
+        )?;
+        let good = format!(in alloc; "ALRRLRRS\n{GOOD}0")?;
+        assert_eq!(rt; whole.as_str(), good.as_str());
+        let other = run(
+            alloc,
+            &[("x.mhl", list.as_str()), ("a.mov", "abd")],
+            &VERIFY,
+            0,
+        )?;
+        let lines = other
+            .lines()
+            .filter(|line| line.starts_with("altered "))
+            .count();
+        let wanted = [md5, sha1, xxh]
+            .iter()
+            .filter(|line| !line.is_empty())
+            .count();
+        assert_eq!(rt; lines, wanted);
+    }
+    Ok(())
+}
+
 #[test]
 fn other_words_are_refused(rt: HostRuntime) -> Result<(), Fail> {
     let alloc = rt.alloc();

@@ -6,7 +6,6 @@ use Rattle.std.proofs.lemmas.Grind.{flat_map-append}
 use Rattle.std.specs.Prelude.{Option, Some, None, Result, Ok, Err}
 use Rattle.std.specs.List.{count_by}
 use Rattle.std.specs.FinMap.{get}
-use Rattle.md5.specs.Md5.{md5}
 use Rattle.bay_core.specs.declared.event.Event.{Event}
 use Rattle.bay_core.specs.Map.{Map}
 use Rattle.bay_core.specs.Replay.{Device, reads}
@@ -16,7 +15,7 @@ use Rattle.bay_core.specs.Looks.{Here, Exactly, says, given, Looks, said}
 use Rattle.bay_core.proofs.Runs.{went_none, went_such}
 use Rattle.bay_core.proofs.Looking.{exact_then, looks_append, no_looks, says_looks, tiles_look, looked_before, drive_here, said_append, said_says, said_tiles}
 use Rattle.folder_listing.specs.Listing.{Sizes}
-use Rattle.mhl_reader.specs.declared.values.HashEntry.{HashEntry}
+use Rattle.mhl_writer.specs.declared.values.HashEntry.{HashEntry}
 use Rattle.report_text.specs.Line.{missing_text, unlisted_text}
 use Rattle.report_text.specs.Shown.{shown}
 use Rattle.verify_run.specs.declared.reading.FileRead.{FileRead}
@@ -26,7 +25,7 @@ use Rattle.verify_run.specs.declared.verdict.Standing.TheVariants.{Absent, Alter
 use Rattle.verify_run.specs.declared.verdict.VerifyError.{VerifyError}
 use Rattle.verify_run.specs.Calls.{stopped_at_device, AnyMap, Begun, LinesStopped}
 use Rattle.verify_run.specs.Report.{Found, standing, standings, entry_lines, is_absent, is_altered, is_uncheckable, verdict, verdict_line, counted, found_in, found_lines}
-use Rattle.verify_run.specs.Results.{SizesOf, FileTaken, bytes_read, Follows, entry_calls, EntryChecked, Look, founds, looked, AllFollow, EntriesChecked, FolderChecked, last_lines}
+use Rattle.verify_run.specs.Results.{SizesOf, FileTaken, DigestsOf, bytes_read, Follows, entry_calls, EntryChecked, Look, founds, looked, AllFollow, EntriesChecked, FolderChecked, last_lines}
 use Rattle.verify_run.proofs.Lines.{said_then}
 use Rattle.verify_run.proofs.Sizes.{some_size, no_size}
 use Rattle.verify_run.proofs.Stops.{stopped_before, lines_after, lines_more, lines_as}
@@ -44,9 +43,9 @@ missing_checked d folder e old new none w = record {
   honest = λ m L h sizes. sym (no_size (get (reads m L d) e.path) (sym none ∙ sizes e.path));
 }
 
-found_checked : (d : ℕ) (folder : Sizes) (e : HashEntry) (size : ℕ) (f : FileRead) (s : Standing) (old mid new : World) → get folder e.path ≡ Some size → (t : FileTaken d e.path size f old mid)
+found_checked : (d : ℕ) (folder : Sizes) (e : HashEntry) (size len : ℕ) (Such : List ℕ → Type 0) (s : Standing) (old mid new : World) → get folder e.path ≡ Some size → (t : FileTaken d e.path size len Such old mid)
     → (s ≡ standing e (Some (given t.calls))) × Went (Here d) (Exactly (says (entry_lines e (Some (given t.calls))))) mid new → EntryChecked d folder e s old new
-found_checked d folder e size f s old mid new there t said = record {
+found_checked d folder e size len Such s old mid new there t said = record {
   calls = Some t.calls;
   follows = (size, there, t.tiles, t.asked, t.ended);
   went = exact_then t.calls (says (entry_lines e (Some (given t.calls)))) (drive_here d t.went) said.1;
@@ -58,9 +57,9 @@ found_checked d folder e size f s old mid new there t said = record {
 }
 
 -- a file that was read, and lines of it that could not be said
-found_stopped : (d : ℕ) (folder : Sizes) (e : HashEntry) (size : ℕ) (f : FileRead) (x : VerifyError) (old mid new : World) → get folder e.path ≡ Some size → (t : FileTaken d e.path size f old mid)
+found_stopped : (d : ℕ) (folder : Sizes) (e : HashEntry) (size len : ℕ) (Such : List ℕ → Type 0) (x : VerifyError) (old mid new : World) → get folder e.path ≡ Some size → (t : FileTaken d e.path size len Such old mid)
     → LinesStopped d AnyMap (λ _. entry_lines e (Some (given t.calls))) x mid new → LinesStopped d (λ m. SizesOf m folder) (λ m. entry_lines e (get m e.path)) x old new
-found_stopped d folder e size f x old mid new there t s =
+found_stopped d folder e size len Such x old mid new there t s =
     lines_after d (λ m. SizesOf m folder) (λ m. []) (λ m. entry_lines e (get m e.path)) x t.calls (tiles_look d e.path 0 t.calls t.tiles) (drive_here d t.went) (λ m L h sizes. said_tiles d e.path 0 t.calls t.tiles) (record {
       stopped = s.stopped;
       failed = s.failed;
@@ -71,12 +70,12 @@ found_stopped d folder e size f x old mid new there t s =
           went_such (λ X g. subst (λ (o : Option (List ℕ)). Begun (entry_lines e o) X) (ap Some is ∙ sym c.1) g) (s.honest m L h tt);
     })
 
-pub found_result : (r : Result Standing VerifyError) (d : ℕ) (folder : Sizes) (e : HashEntry) (size : ℕ) (f : FileRead) (old mid new : World) → get folder e.path ≡ Some size → FileTaken d e.path size f old mid
-    → ((bytes : List ℕ) → f.len ≡ length bytes → f.md5 ≡ md5 bytes
+pub found_result : (r : Result Standing VerifyError) (d : ℕ) (folder : Sizes) (e : HashEntry) (size : ℕ) (f : FileRead) (old mid new : World) → get folder e.path ≡ Some size → FileTaken d e.path size f.len (DigestsOf e f) old mid
+    → ((bytes : List ℕ) → f.len ≡ length bytes → DigestsOf e f bytes
     → MatchResult r (λ s. (s ≡ standing e (Some bytes)) × Went (Here d) (Exactly (says (entry_lines e (Some bytes)))) mid new) (λ x. LinesStopped d AnyMap (λ _. entry_lines e (Some bytes)) x mid new))
     → MatchResult r (λ s. EntryChecked d folder e s old new) (λ x. LinesStopped d (λ m. SizesOf m folder) (λ m. entry_lines e (get m e.path)) x old new)
-found_result (Ok s) d folder e size f old mid new there t said = found_checked d folder e size f s old mid new there t (said (given t.calls) t.len t.md5)
-found_result (Err x) d folder e size f old mid new there t said = found_stopped d folder e size f x old mid new there t (said (given t.calls) t.len t.md5)
+found_result (Ok s) d folder e size f old mid new there t said = found_checked d folder e size f.len (DigestsOf e f) s old mid new there t (said (given t.calls) t.long t.such)
+found_result (Err x) d folder e size f old mid new there t said = found_stopped d folder e size f.len (DigestsOf e f) x old mid new there t (said (given t.calls) t.long t.such)
 
 entry_looks : (d : ℕ) (folder : Sizes) (e : HashEntry) (calls : Option (List Event)) → Follows d folder e calls → Looks (entry_calls e calls)
 entry_looks d folder e None f = says_looks (entry_lines e None)

@@ -15,9 +15,9 @@ use Rattle.bay_core.proofs.Runs.{went_such}
 use Rattle.bay_core.proofs.Looking.{exact_then, no_tiles, tiles_push, tiles_look, given_push, one_look, looks_append, read_looks, looked_before}
 use Rattle.folder_listing.specs.Listing.{listing}
 use Rattle.folder_listing.proofs.Listed.{sizes_of_lists}
-use Rattle.mhl_reader.specs.declared.values.HashList.{HashList}
+use Rattle.mhl_writer.specs.declared.values.HashList.{HashList}
 use Rattle.mhl_reader.specs.declared.error.ReadError.TheVariants.{NotYet}
-use Rattle.mhl_reader.specs.ListText.{values_of, list_text, IsCanonical}
+use Rattle.mhl_writer.specs.ListText.{values_of, list_text, IsCanonical}
 use Rattle.verify_run.specs.Calls.{Halted}
 use Rattle.verify_run.specs.declared.loading.LoadError.{LoadError}
 use Rattle.verify_run.specs.declared.loading.LoadError.TheVariants.{DriveFailed, Absent, TooLarge, Unreadable, Memory}

@@ -16,7 +16,7 @@ use Rattle.verify_run.proofs.Lines.{said_as, said_then}
 use Rattle.verify_run.proofs.Stops.{unsaid_lines, lines_after, lines_as}
 use Rattle.bay_core.specs.declared.event.FileInfo.{FileInfo}
 use Rattle.folder_listing.specs.Listing.{Sizes, listing, names}
-use Rattle.mhl_reader.specs.declared.values.HashEntry.{HashEntry}
+use Rattle.mhl_writer.specs.declared.values.HashEntry.{HashEntry}
 use Rattle.bay_core.specs.Map.{Map}
 use Rattle.verify_run.specs.declared.verdict.VerifyError.{VerifyError}
 use Rattle.verify_run.specs.Calls.{Unsaid, LinesStopped, AnyMap}

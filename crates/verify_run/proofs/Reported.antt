@@ -17,7 +17,7 @@ use Rattle.bay_core.proofs.Runs.{went_then, went_such}
 use Rattle.bay_core.proofs.Looking.{exact_then, looks_append, one_look, no_looks, says_looks, looked_before, drive_here, stopped_after, stopped_looks, said_append, said_says}
 use Rattle.folder_listing.specs.Listing.{Sizes, listing, names}
 use Rattle.folder_listing.proofs.Listed.{sizes_of_lists, names_of_sizes}
-use Rattle.mhl_reader.specs.declared.values.HashEntry.{HashEntry}
+use Rattle.mhl_writer.specs.declared.values.HashEntry.{HashEntry}
 use Rattle.report_text.specs.Line.{unlisted_text}
 use Rattle.report_text.specs.Shown.{shown}
 use Rattle.verify_run.specs.declared.verdict.Verdict.{Verdict}

@@ -17,7 +17,7 @@ use Rattle.bay_core.proofs.Runs.{went_such}
 use Rattle.bay_core.proofs.Looking.{no_tiles}
 use Rattle.folder_listing.specs.Listing.{Sizes, listing, names}
 use Rattle.folder_listing.proofs.Texts.{bytes_eq-self}
-use Rattle.mhl_reader.specs.declared.values.HashEntry.{HashEntry}
+use Rattle.mhl_writer.specs.declared.values.HashEntry.{HashEntry}
 use Rattle.report_text.specs.Line.{unlisted_text}
 use Rattle.report_text.specs.Shown.{shown}
 use Rattle.verify_run.specs.declared.verdict.Verdict.{Verdict}

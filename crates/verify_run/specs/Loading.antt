@@ -11,9 +11,9 @@ use Rattle.bay_core.specs.World.{World, Honest, Rose}
 use Rattle.bay_core.specs.Went.{Went, Only}
 use Rattle.bay_core.specs.Looks.{Exactly, read_call, given, Tiles, Stops}
 use Rattle.folder_listing.specs.Listing.{listing}
-use Rattle.mhl_reader.specs.declared.values.HashList.{HashList}
+use Rattle.mhl_writer.specs.declared.values.HashList.{HashList}
 use Rattle.mhl_reader.specs.declared.error.ReadError.TheVariants.{NotYet, Memory as NoMemoryRead}
-use Rattle.mhl_reader.specs.ListText.{Values, values_of, list_text, IsCanonical}
+use Rattle.mhl_writer.specs.ListText.{Values, values_of, list_text, IsCanonical}
 use Rattle.verify_run.specs.Calls.{Halted}
 use Rattle.verify_run.specs.Results.{AskedUpTo}
 use Rattle.verify_run.specs.declared.loading.LoadError.{LoadError}

@@ -1,12 +1,15 @@
 -- What a verification reports of a folder: docs/FORMATS.md, "Verification".
-use Rattle.std.specs.Prelude.{ℕ, ◌+◌, Bool, true, false, not, ◌&&◌, ◌||◌, cond, List, [], ◌∷◌, ◌++◌, map, length, Option, Some, None, is_some, bytes_eq, nat_eq, nat_lt, codes}
+use Rattle.std.specs.Prelude.{ℕ, ◌+◌, Bool, true, false, not, ◌&&◌, ◌||◌, cond, List, [], ◌∷◌, ◌++◌, map, length, Option, Some, None, bytes_eq, nat_eq, nat_lt, codes}
 use Rattle.std.specs.List.{filter, flat_map, count_by, list_any}
 use Rattle.std.specs.FinMap.{get, keys}
 use Rattle.md5.specs.Md5.{md5}
+use Rattle.sha1.specs.Sha1.{sha1}
+use Rattle.digest_set.specs.Xxh.{xxh}
 use Rattle.path_text.specs.Path.{is_path, is_control_path}
 use Rattle.bay_core.specs.Map.{Map}
-use Rattle.mhl_reader.specs.declared.values.HashEntry.{HashEntry}
-use Rattle.report_text.specs.Line.{missing_text, unchecked_text, unlisted_text, altered_size_text, altered_md5_text, verdict_text}
+use Rattle.mhl_writer.specs.ListText.{has_digest}
+use Rattle.mhl_writer.specs.declared.values.HashEntry.{HashEntry}
+use Rattle.report_text.specs.Line.{missing_text, unchecked_text, unlisted_text, altered_size_text, altered_md5_text, altered_sha1_text, altered_xxh_text, verdict_text}
 use Rattle.report_text.specs.Shown.{shown}
 use Rattle.verify_run.specs.declared.verdict.Standing.{Standing}
 use Rattle.verify_run.specs.declared.verdict.Standing.TheVariants.{Absent, Altered, Uncheckable, Good}
@@ -18,40 +21,49 @@ use Rattle.verify_run.specs.declared.verdict.Outcome.TheVariants.{AllGood, SomeB
 abbrev pub Found : Type 0
 Found = HashEntry × Option (List ℕ)
 
--- a recorded size differs from that of the bytes
-abbrev pub size_differs : Option ℕ → List ℕ → Bool
-size_differs None bytes = false
-size_differs (Some n) bytes = not (nat_eq n (length bytes))
-
--- a recorded digest differs from that of the bytes
-abbrev pub md5_differs : Option (List ℕ) → List ℕ → Bool
-md5_differs None bytes = false
-md5_differs (Some digest) bytes = not (bytes_eq digest (md5 bytes))
-
--- how an entry counts: once, as missing, altered, unchecked or good
-abbrev pub standing : HashEntry → Option (List ℕ) → Standing
-standing e None = Absent
-standing e (Some bytes) = cond (size_differs e.size bytes || md5_differs e.md5 bytes) Altered (cond (is_some e.md5) Good Uncheckable)
-
--- the line of a recorded size that differs
+-- the line of a recorded size that differs from that of the bytes
 abbrev pub size_lines : List ℕ → Option ℕ → List ℕ → List (List ℕ)
 size_lines path None bytes = []
 size_lines path (Some n) bytes = cond (nat_eq n (length bytes)) [] (altered_size_text n (length bytes) path ∷ [])
 
--- the line of a recorded digest that differs
-abbrev pub md5_lines : List ℕ → Option (List ℕ) → List ℕ → List (List ℕ)
-md5_lines path None bytes = []
-md5_lines path (Some digest) bytes = cond (bytes_eq digest (md5 bytes)) [] (altered_md5_text digest (md5 bytes) path ∷ [])
+-- the line of a recorded digest that differs from that of the bytes, of this kind and with this text
+abbrev pub digest_lines : (List ℕ → List ℕ) → (List ℕ → List ℕ → List ℕ → List ℕ) → List ℕ → Option (List ℕ) → List ℕ → List (List ℕ)
+digest_lines kind text path None bytes = []
+digest_lines kind text path (Some listed) bytes = cond (bytes_eq listed (kind bytes)) [] (text listed (kind bytes) path ∷ [])
+
+-- a line for each recorded value that differs, in the order size, md5, sha1, xxhash64be
+abbrev pub altered_lines : HashEntry → List ℕ → List (List ℕ)
+altered_lines e bytes =
+    size_lines e.path e.size bytes
+    ++ digest_lines md5 altered_md5_text e.path e.md5 bytes
+    ++ digest_lines sha1 altered_sha1_text e.path e.sha1 bytes
+    ++ digest_lines xxh altered_xxh_text e.path e.xxh bytes
+
+-- there is no line
+abbrev pub is_empty : List (List ℕ) → Bool
+is_empty [] = true
+is_empty (line ∷ lines) = false
+
+-- how an entry counts whose file is there, by its lines: altered where there is one, else unchecked where it records no digest, else good
+abbrev pub standing_by : List (List ℕ) → Bool → Standing
+standing_by (line ∷ lines) has = Altered
+standing_by [] true = Good
+standing_by [] false = Uncheckable
+
+-- how an entry counts: once, as missing, altered, unchecked or good
+abbrev pub standing : HashEntry → Option (List ℕ) → Standing
+standing e None = Absent
+standing e (Some bytes) = standing_by (altered_lines e bytes) (has_digest e)
 
 -- a line for an entry that has nothing to check
 abbrev pub unchecked_lines : List ℕ → Standing → List (List ℕ)
 unchecked_lines path Uncheckable = unchecked_text path ∷ []
 unchecked_lines path _ = []
 
--- the lines of one entry: missing, or what differs in the order size, md5, or that there is nothing to check
+-- the lines of one entry: missing, or one for each value that differs, or that there is nothing to check
 abbrev pub entry_lines : HashEntry → Option (List ℕ) → List (List ℕ)
 entry_lines e None = missing_text e.path ∷ []
-entry_lines e (Some bytes) = size_lines e.path e.size bytes ++ md5_lines e.path e.md5 bytes ++ unchecked_lines e.path (standing e (Some bytes))
+entry_lines e (Some bytes) = altered_lines e bytes ++ unchecked_lines e.path (standing e (Some bytes))
 
 -- a name that is no control path and not the list itself
 abbrev pub is_other : List ℕ → List ℕ → Bool

@@ -3,6 +3,10 @@ use Rattle.std.specs.Prelude.{◌≡◌, ◌⊎◌, ℕ, ◌+◌, ◌-◌, ◌^�
 use Rattle.std.specs.List.{flat_map}
 use Rattle.std.specs.FinMap.{get, keys}
 use Rattle.md5.specs.Md5.{md5}
+use Rattle.sha1.specs.Sha1.{sha1}
+use Rattle.digest_set.specs.Xxh.{xxh}
+use Rattle.report_text.specs.declared.line.Line.{Line}
+use Rattle.report_text.specs.Line.{line_text}
 use Rattle.bay_core.specs.declared.event.Event.{Event}
 use Rattle.bay_core.specs.declared.event.Event.TheVariants.{DriveList, DriveRead}
 use Rattle.bay_core.specs.declared.event.FileInfo.{FileInfo}
@@ -12,7 +16,7 @@ use Rattle.bay_core.specs.World.{World, Honest}
 use Rattle.bay_core.specs.Went.{Went, Only}
 use Rattle.bay_core.specs.Looks.{Here, Exactly, says, read_call, piece, given, Tiles, Stopped}
 use Rattle.folder_listing.specs.Listing.{Sizes, listing, names}
-use Rattle.mhl_reader.specs.declared.values.HashEntry.{HashEntry}
+use Rattle.mhl_writer.specs.declared.values.HashEntry.{HashEntry}
 use Rattle.verify_run.specs.declared.reading.FileRead.{FileRead}
 use Rattle.verify_run.specs.declared.verdict.Standing.{Standing}
 use Rattle.verify_run.specs.declared.verdict.Verdict.{Verdict}
@@ -60,15 +64,26 @@ limit_of size = min (size + 1) (2 ^ 64 - 1)
 abbrev pub Ended : ℕ → List Event → Type 0
 Ended limit calls = (length (given calls) ≡ limit) ⊎ ((first : List Event) × (last : Event) × (calls ≡ first ++ last ∷ []) × (piece last ≡ []) × (length (given calls) < asked_end last))
 
--- the reads of one file, and what they gave
-pub record FileTaken (d : ℕ) (path : List ℕ) (size : ℕ) (file : FileRead) (old new : World) : Type 0 where
+-- the digests of these bytes that an entry records, and no others
+pub record DigestsOf (e : HashEntry) (file : FileRead) (bytes : List ℕ) : Type 0 where
+  pub md5 : file.md5 ≡ option_map (λ _. md5 bytes) e.md5
+  pub sha1 : file.sha1 ≡ option_map (λ _. sha1 bytes) e.sha1
+  pub xxh : file.xxh ≡ option_map (λ _. xxh bytes) e.xxh
+
+-- the text of a line, where there is one
+abbrev pub texts : Option Line → List (List ℕ)
+texts None = []
+texts (Some line) = line_text line ∷ []
+
+-- the reads of one file, their length, and what holds of the bytes that they gave
+pub record FileTaken (d : ℕ) (path : List ℕ) (size len : ℕ) (Such : List ℕ → Type 0) (old new : World) : Type 0 where
   pub calls : List Event
   pub went : Went (Only (Drive d)) (Exactly calls) old new
   pub tiles : Tiles d path 0 calls
   pub asked : AskedUpTo (limit_of size) calls
   pub ended : Ended (limit_of size) calls
-  pub len : file.len ≡ length (given calls)
-  pub md5 : file.md5 ≡ md5 (given calls)
+  pub long : len ≡ length (given calls)
+  pub such : Such (given calls)
   pub honest : (m : Map) (L : List Event) → Honest new d m L → (c : List ℕ) → get (reads m L d) path ≡ Some c → length c ≡ size → given calls ≡ c
 
 -- the bytes of a file, by the reads that were made of it

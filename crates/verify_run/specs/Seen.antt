@@ -8,7 +8,7 @@ use Rattle.bay_core.specs.Map.{Map}
 use Rattle.bay_core.specs.declared.event.FileInfo.{FileInfo}
 use Rattle.bay_core.specs.Looks.{given, Tiles, said}
 use Rattle.folder_listing.specs.Listing.{listing, names}
-use Rattle.mhl_reader.specs.declared.values.HashEntry.{HashEntry}
+use Rattle.mhl_writer.specs.declared.values.HashEntry.{HashEntry}
 use Rattle.verify_run.specs.declared.verdict.Verdict.{Verdict}
 use Rattle.verify_run.specs.Report.{Found, found_in, lines, verdict, unlisted}
 use Rattle.verify_run.specs.Results.{AskedUpTo, limit_of, Ended}

@@ -6,12 +6,12 @@ ghost use Rattle.verify_run.specs.Calls.{LinesStopped};
 ghost use Rattle.verify_run.specs.Results.{SizesOf, EntryChecked, EntriesChecked};
 ghost use Rattle.verify_run.specs.Report.{counted, entry_lines, found_lines, found_in};
 
-use crate::reading::read_file;
+use crate::reading::read_entry;
 use crate::saying::{say, say_found};
 use crate::{Standing, Verdict, VerifyError};
 use bay_core::Bay;
 use folder_listing::Folder;
-use mhl_reader::HashEntry;
+use mhl_writer::HashEntry;
 use path_text::Scratch;
 use report_text::Line;
 
@@ -34,11 +34,11 @@ fn check_entry<B: Bay>(
             Err(e) => Err(e),
         };
     };
-    let found = match read_file(bay, d, entry.path.as_str(), size, buffer) {
+    let found = match read_entry(bay, d, entry, size, buffer) {
         Ok(found) => found,
         Err(_) => return Err(VerifyError::DriveFailed),
     };
-    say_found(bay, scratch, entry, found)
+    say_found(bay, scratch, entry, &found)
 }
 
 // One more entry.

@@ -1,7 +1,9 @@
 //! Verifying the files of a drive against a list that lies on it.
 #![tactic(auto)]
 
+mod altered;
 mod checking;
+mod kinds;
 mod loading;
 mod reading;
 mod saying;

@@ -13,7 +13,8 @@ ghost use Rattle.verify_run.specs.Loading.{LoadCalls, LoadGives, Loaded, TextRea
 
 use crate::reading::read_piece;
 use bay_core::{Bay, FileInfo, ListError};
-use mhl_reader::{HashList, ReadError, read_list};
+use mhl_reader::{ReadError, read_list};
+use mhl_writer::HashList;
 use path_text::PathText;
 use std::alloc::Global;
 use thiserror::Error;

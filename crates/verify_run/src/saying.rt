@@ -1,17 +1,19 @@
 // The lines of an entry.
-ghost use Rattle.std.specs.Prelude.{◌≡◌, ◌≤◌, ℕ, List, [], ◌∷◌, length, Some, MatchResult, cond, ◌||◌, bytes_eq};
-ghost use Rattle.md5.specs.Md5.{md5};
+ghost use Rattle.std.specs.Prelude.{◌≡◌, ◌≤◌, ℕ, List, [], ◌∷◌, length, Some, IfSome, MatchResult, not};
+ghost use Rattle.std.specs.List.{flat_map, AllByRecursion};
+ghost use Rattle.mhl_writer.specs.ListText.{has_digest};
 ghost use Rattle.bay_core.specs.Went.{Went};
 ghost use Rattle.bay_core.specs.Looks.{Here, Exactly, says};
 ghost use Rattle.report_text.specs.Line.{line_text, IsShort};
-ghost use Rattle.verify_run.specs.declared.verdict.Standing.TheVariants.{Altered, Good, Uncheckable};
 ghost use Rattle.verify_run.specs.Calls.{Unsaid, LinesStopped, AnyMap};
-ghost use Rattle.verify_run.specs.Report.{standing, size_differs, md5_differs, size_lines, md5_lines, unchecked_lines, entry_lines};
+ghost use Rattle.verify_run.specs.Results.{DigestsOf, texts};
+ghost use Rattle.verify_run.specs.Report.{is_empty, standing, standing_by, unchecked_lines, entry_lines};
 
+use crate::altered::altered_lines;
 use crate::reading::FileRead;
 use crate::{Standing, VerifyError};
 use bay_core::Bay;
-use mhl_reader::HashEntry;
+use mhl_writer::HashEntry;
 use path_text::Scratch;
 use report_text::{Line, line_into};
 
@@ -27,70 +29,34 @@ pub fn say<B: Bay>(bay: &mut B, scratch: &mut Scratch, line: &Line<'_>) -> Resul
     }
 }
 
-// Says the line of another size, and answers whether there is one.
-fn say_size<B: Bay>(
+// Says those of these lines that are there, and answers whether one is.
+fn say_lines<B: Bay>(
     bay: &mut B,
     scratch: &mut Scratch,
-    entry: &HashEntry,
-    len: u64,
+    lines: &[Option<Line<'_>>],
 ) -> Result<bool, VerifyError>
-    ensures { (d : ℕ) (bytes : List ℕ) → len ≡ length bytes
-        → MatchResult result (λ differs. (differs ≡ size_differs entry.now.size bytes) × Went (Here d) (Exactly (says (size_lines entry.now.path entry.now.size bytes))) (B.world bay.old) (B.world bay.new)) (λ e. Unsaid d e (B.world bay.old) (B.world bay.new)) }
+    requires { AllByRecursion (λ line. IfSome line IsShort) lines.now }
+    ensures { (d : ℕ) → MatchResult result (λ any. (any ≡ not (is_empty (flat_map texts lines.now))) × Went (Here d) (Exactly (says (flat_map texts lines.now))) (B.world bay.old) (B.world bay.new)) (λ e. LinesStopped d AnyMap (λ _. flat_map texts lines.now) e (B.world bay.old) (B.world bay.new)) }
 {
-    let Some(listed) = entry.size else {
-        return Ok(false);
-    };
-    if listed == len {
-        return Ok(false);
+    let mut any = false;
+    for line in lines {
+        if let Some(line) = line {
+            match say(bay, scratch, line) {
+                Ok(()) => any = true,
+                Err(e) => return Err(e),
+            }
+        }
     }
-    match say(
-        bay,
-        scratch,
-        &Line::AlteredSize(listed, len, entry.path.as_str()),
-    ) {
-        Ok(()) => Ok(true),
-        Err(e) => Err(e),
-    }
+    Ok(any)
 }
 
-fn same_digest(a: &[u8; 16], b: &[u8; 16]) -> bool
-    ensures { result ≡ bytes_eq a.now b.now }
+// How an entry counts whose file is there.
+fn standing_of(altered: bool, entry: &HashEntry) -> Standing
+    ensures { (lines : List (List ℕ)) → altered ≡ not (is_empty lines) → result ≡ standing_by lines (has_digest entry.now) }
 {
-    a.as_slice() == b.as_slice()
-}
-
-// Says the line of another digest, and answers whether there is one.
-fn say_md5<B: Bay>(
-    bay: &mut B,
-    scratch: &mut Scratch,
-    entry: &HashEntry,
-    digest: [u8; 16],
-) -> Result<bool, VerifyError>
-    ensures { (d : ℕ) (bytes : List ℕ) → digest ≡ md5 bytes
-        → MatchResult result (λ differs. (differs ≡ md5_differs entry.now.md5 bytes) × Went (Here d) (Exactly (says (md5_lines entry.now.path entry.now.md5 bytes))) (B.world bay.old) (B.world bay.new)) (λ e. Unsaid d e (B.world bay.old) (B.world bay.new)) }
-{
-    let Some(listed) = entry.md5 else {
-        return Ok(false);
-    };
-    if same_digest(&listed, &digest) {
-        return Ok(false);
-    }
-    match say(
-        bay,
-        scratch,
-        &Line::AlteredMd5(listed, digest, entry.path.as_str()),
-    ) {
-        Ok(()) => Ok(true),
-        Err(e) => Err(e),
-    }
-}
-
-fn standing_of(size: bool, md5: bool, checkable: bool) -> Standing
-    ensures { result ≡ cond (size || md5) Altered (cond checkable Good Uncheckable) }
-{
-    if size || md5 {
+    if altered {
         Standing::Altered
-    } else if checkable {
+    } else if entry.md5.is_some() || entry.sha1.is_some() || entry.xxh.is_some() {
         Standing::Good
     } else {
         Standing::Uncheckable
@@ -118,20 +84,16 @@ pub fn say_found<B: Bay>(
     bay: &mut B,
     scratch: &mut Scratch,
     entry: &HashEntry,
-    found: FileRead,
+    found: &FileRead,
 ) -> Result<Standing, VerifyError>
-    ensures { (d : ℕ) (bytes : List ℕ) → found.len ≡ length bytes → found.md5 ≡ md5 bytes
+    ensures { (d : ℕ) (bytes : List ℕ) → found.now.len ≡ length bytes → DigestsOf entry.now found.now bytes
         → MatchResult result (λ s. (s ≡ standing entry.now (Some bytes)) × Went (Here d) (Exactly (says (entry_lines entry.now (Some bytes)))) (B.world bay.old) (B.world bay.new)) (λ e. LinesStopped d AnyMap (λ _. entry_lines entry.now (Some bytes)) e (B.world bay.old) (B.world bay.new)) }
 {
-    let size = match say_size(bay, scratch, entry, found.len) {
-        Ok(differs) => differs,
+    let altered = match say_lines(bay, scratch, &altered_lines(entry, found)) {
+        Ok(altered) => altered,
         Err(e) => return Err(e),
     };
-    let md5 = match say_md5(bay, scratch, entry, found.md5) {
-        Ok(differs) => differs,
-        Err(e) => return Err(e),
-    };
-    let standing = standing_of(size, md5, entry.md5.is_some());
+    let standing = standing_of(altered, entry);
     match say_standing(bay, scratch, standing, entry.path.as_str()) {
         Ok(()) => Ok(standing),
         Err(e) => Err(e),

@@ -20,7 +20,7 @@ use crate::saying::say;
 use crate::{Verdict, VerifyError};
 use bay_core::{Bay, FileInfo, ListError, NameText};
 use folder_listing::Folder;
-use mhl_reader::{HashEntry, HashList};
+use mhl_writer::{HashEntry, HashList};
 use path_text::{PathText, Scratch, is_control_name};
 use report_text::{Line, ShownName};
 use std::alloc::{AllocError, Global};

@@ -1,5 +1,5 @@
 use Rattle.std.proofs.Common.{◌≡◌, ◌+◌, ◌++◌, ◌∷◌, [], take, sym, ◌∙◌, ap, subst}
-use Rattle.mhl_reader.specs.ListText.{paths_of}
+use Rattle.mhl_writer.specs.ListText.{paths_of}
 use Rattle.mhl_reader.proofs.Repeats.{HasSeen, has_seen-none, has_seen-more, paths_of-more, not_distinct_at}
 use Rattle.mhl_reader.proofs.distinct.has_distinct_paths.Goals as goal
 

@@ -1,5 +1,5 @@
 use Rattle.std.proofs.Common.{take}
-use Rattle.mhl_reader.specs.ListText.{paths_of}
+use Rattle.mhl_writer.specs.ListText.{paths_of}
 use Rattle.mhl_reader.proofs.Repeats.{HasSeen}
 use Rattle.mhl_reader.proofs.distinct.has_distinct_paths.Given as goal
 

@@ -1,6 +1,6 @@
-use Rattle.std.proofs.Common.{refl, codes, sym, ◌∙◌}
+use Rattle.std.proofs.Common.{refl, sym, ◌∙◌}
 use Rattle.std.proofs.lemmas.Result.{err_from_is_err_and}
-use Rattle.mhl_reader.specs.ListText.{head}
+use Rattle.mhl_writer.specs.ListText.{first_lines, tail_text}
 use Rattle.mhl_reader.specs.Taking.{strip}
 use Rattle.mhl_reader.specs.Reading.{creator_at, entries_at, list_of}
 use Rattle.mhl_reader.proofs.Loops.{fails_at}
@@ -10,7 +10,7 @@ pub returns-in_err-rest : goal.returns-in_err-rest
 unfolding list_of
 returns-in_err-rest c =
     let p = err_from_is_err_and c.from_residual.result c.from_residual.ensures.1 in
-    rw (p.1, p.2) (fails_at c.in_err-rest.field-0.0 (strip head c.args.bytes.now) (list_of c.args.bytes.now)
+    rw (p.1, p.2) (fails_at c.in_err-rest.field-0.0 (strip first_lines c.args.bytes.now) (list_of c.args.bytes.now)
     (λ none. rw none refl) c.in_err-rest.ensures)
 
 pub returns-in_err-creator : goal.returns-in_err-creator
@@ -31,7 +31,7 @@ pub returns-in_err-rest-2 : goal.returns-in_err-rest-2
 unfolding list_of
 returns-in_err-rest-2 c =
     let p = err_from_is_err_and c.from_residual-in_err-rest-2.result c.from_residual-in_err-rest-2.ensures.1 in
-    rw (p.1, p.2) (fails_at c.in_err-rest-2.field-0.0 (strip (codes "</hashlist>\n") c.in_ok-entries.rest.now) (list_of c.args.bytes.now)
+    rw (p.1, p.2) (fails_at c.in_err-rest-2.field-0.0 (strip tail_text c.in_ok-entries.rest.now) (list_of c.args.bytes.now)
     (λ none. rw (c.in_ok-rest.ensures, c.in_ok-creator.ensures, c.in_ok-entries.ensures, none) refl) c.in_err-rest-2.ensures)
 
 pub returns-then-is_empty : goal.returns-then-is_empty

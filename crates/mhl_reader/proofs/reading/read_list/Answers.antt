@@ -2,8 +2,8 @@ use Rattle.std.proofs.Common.{List, subst}
 use Rattle.std.specs.List.{IsDistinct}
 use Rattle.std.specs.Str.{bytes_eq}
 use Rattle.std.proofs.lemmas.Result.{err_from_is_err_and}
-use Rattle.mhl_reader.specs.declared.values.HashEntry.{HashEntry}
-use Rattle.mhl_reader.specs.ListText.{paths_of, values_of}
+use Rattle.mhl_writer.specs.declared.values.HashEntry.{HashEntry}
+use Rattle.mhl_writer.specs.ListText.{paths_of, values_of}
 use Rattle.mhl_reader.proofs.Lists.{found, text_read, read_once, not_distinct, only_memory, refuses}
 use Rattle.mhl_reader.proofs.reading.read_list.Goals as goal
 

@@ -1,8 +1,7 @@
-use Rattle.std.proofs.Common.{sym, ◌∙◌, subst, ap}
+use Rattle.std.proofs.Common.{sym, ◌∙◌, ap}
 use Rattle.std.specs.FinMap.{get}
 use Rattle.folder_listing.specs.Listing.{sizes_in}
 use Rattle.report_text.specs.Line.{missing_text}
-use Rattle.verify_run.specs.Results.{FileTaken}
 use Rattle.verify_run.proofs.Lines.{said_as, one_line}
 use Rattle.verify_run.proofs.Stops.{unsaid_lines, halted_unsaid}
 use Rattle.verify_run.proofs.Checks.{missing_checked, found_result}
@@ -16,11 +15,10 @@ returns-in-Ok g c =
 pub returns-in-Err : goal.returns-in-Err
 returns-in-Err g c = unsaid_lines _ _ _ _ (c.in-Err.ensures c.args.d)
 
-pub returns-in-Err-read_file : goal.returns-in-Err-read_file
-returns-in-Err-read_file g c = unsaid_lines _ _ _ _ (halted_unsaid _ c.in-Err-read_file.ensures)
+pub returns-in-Err-read_entry : goal.returns-in-Err-read_entry
+returns-in-Err-read_entry g c = unsaid_lines _ _ _ _ (halted_unsaid _ c.in-Err-read_entry.ensures)
 
 pub returns : goal.returns
 returns g c =
-    found_result c.say_found.result _ _ c.args.entry.now c.in-Some.size c.in-Ok-read_file.found _ _ _ (ap (get (sizes_in c.args.folder.now)) (sym c.as_str.ensures.same) ∙ sym c.size.ensures ∙ c.in-Some.is)
-    (subst (λ p. FileTaken c.args.d p c.in-Some.size c.in-Ok-read_file.found (g.B.Bay.world c.args.bay.now) (g.B.Bay.world c.read_file.new.bay)) c.as_str-2.ensures.same c.in-Ok-read_file.ensures)
+    found_result c.say_found.result _ _ c.args.entry.now c.in-Some.size c.in-Ok-read_entry.found _ _ _ (ap (get (sizes_in c.args.folder.now)) (sym c.as_str.ensures.same) ∙ sym c.size.ensures ∙ c.in-Some.is) c.in-Ok-read_entry.ensures
     (c.say_found.ensures c.args.d)

@@ -2,7 +2,7 @@ use Rattle.std.proofs.Common.{refl, arith, subst, map, List}
 use Rattle.std.proofs.lemmas.List.{take_all}
 use Rattle.folder_listing.specs.Listing.{sizes_in, IsMarkedAt}
 use Rattle.folder_listing.proofs.Marked.{marked_at_none, marked_at_turn}
-use Rattle.mhl_reader.specs.declared.values.HashEntry.{HashEntry}
+use Rattle.mhl_writer.specs.declared.values.HashEntry.{HashEntry}
 use Rattle.verify_run.proofs.verifying.mark_listed.Goals as goal
 
 pub loop-entry-init : goal.loop-entry-init

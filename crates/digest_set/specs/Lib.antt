@@ -1,0 +1,4 @@
+pub mod Fed
+pub mod HexText
+pub mod Triple
+pub mod Xxh

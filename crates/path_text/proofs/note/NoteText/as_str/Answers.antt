@@ -1,5 +1,0 @@
-use Rattle.path_text.proofs.Texts.{note_holds}
-use Rattle.path_text.proofs.note.NoteText.as_str.Goals as goal
-
-pub returns-clause-note : goal.returns-clause-note
-returns-clause-note c = note_holds _ _ _ c.deref.utf8 c.deref.ensures c.self.view_is c.self.invariant

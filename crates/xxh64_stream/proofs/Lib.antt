@@ -1,0 +1,4 @@
+pub mod Words
+pub mod Groups
+pub mod States
+pub mod Vectors
