@@ -8,3 +8,4 @@ pub mod Readable
 pub mod Crash
 pub mod Changes
 pub mod Rest
+pub mod Crashing

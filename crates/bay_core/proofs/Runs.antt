@@ -99,6 +99,11 @@ pub ran_none : (c : Bool → Event) (cs : List (Bool → Event)) → Ran (c ∷ 
 unfolding Ran
 ran_none c cs = inl refl
 
+pub AllOn-front : (On : Device → Type 0) (A B : List Event) → AllOn On (A ++ B) → AllOn On A
+unfolding AllOn
+AllOn-front On [] B on = tt
+AllOn-front On (e ∷ A) B on = (on.0, AllOn-front On A B on.1)
+
 same_rest : (A B C : List Event) → A ++ B ≡ A ++ C → B ≡ C
 same_rest [] B C e = e
 same_rest (x ∷ A) B C e = same_rest A B C (cc e)

@@ -6,3 +6,5 @@ pub mod World
 pub mod Went
 pub mod Attach
 pub mod Looks
+pub mod Crashes
+pub mod Paths

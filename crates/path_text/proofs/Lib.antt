@@ -1,3 +1,7 @@
 pub mod PlaceLemmas
 pub mod Texts
 pub mod Moments
+pub mod Ancestors
+pub mod Labels
+pub mod Storage
+pub mod ListNames

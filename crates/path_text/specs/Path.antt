@@ -1,7 +1,7 @@
 -- Which texts are valid relative paths, and why one is not. This station's own rule: docs/FORMATS.md, "Paths".
-use Rattle.std.specs.Prelude.{ℕ, ◌+◌, Bool, cond, ◌&&◌, ◌||◌, ◌==◌, List, length, slice_index, nat_lt, nat_eq, codes, Option, Some, None, is_none, Result, Ok, Err}
+use Rattle.std.specs.Prelude.{ℕ, ◌+◌, Bool, cond, not, ◌&&◌, ◌||◌, ◌==◌, List, [], ◌∷◌, ◌++◌, length, slice_index, nat_lt, nat_eq, codes, Option, Some, None, is_none, Result, Ok, Err}
 use Rattle.std.specs.Prelude.{◌≡◌}
-use Rattle.std.specs.List.{starts_with}
+use Rattle.std.specs.List.{starts_with, list_any}
 use Rattle.std.specs.Str.{is_utf8}
 use Rattle.path_text.specs.declared.path.PathError.{PathError}
 use Rattle.path_text.specs.declared.path.PathError.TheVariants.{Empty, TooLong, Absolute, BadChar, EmptyPart, DotPart, Memory}
@@ -36,6 +36,14 @@ is_path text = is_utf8 text && is_none (refusal_of text)
 -- the first part is `.mhlstation`
 unfoldable pub is_control_path : List ℕ → Bool
 is_control_path text = starts_with nat_eq text (codes ".mhlstation") && ends_part text 11
+
+-- b lies below a: it begins with a followed by a slash (47)
+abbrev pub is_ancestor : List ℕ → List ℕ → Bool
+is_ancestor a b = starts_with nat_eq b (a ++ 47 ∷ [])
+
+-- there is no slash
+abbrev pub is_one_part : List ℕ → Bool
+is_one_part text = not (list_any (λ b. b == 47) text)
 
 -- what reading a text as a path gives
 abbrev pub PathRead : List ℕ → Result (List ℕ) PathError → Type 0

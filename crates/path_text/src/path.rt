@@ -1,4 +1,4 @@
-ghost use Rattle.std.specs.Prelude.{◌≡◌, ◌+◌, ◌^◌, ◌<◌, ◌≤◌, ◌&&◌, length, bytes_eq, IfOk, IsTrue, Some};
+ghost use Rattle.std.specs.Prelude.{◌≡◌, ◌+◌, ◌^◌, ◌<◌, ◌≤◌, ◌&&◌, length, bytes_eq, string_bytes, IfOk, IsTrue, Some, None};
 ghost use Rattle.std.proofs.Common.{refl};
 ghost use Rattle.std.specs.Ordering.{nat_cmp};
 ghost use Rattle.std.specs.Cmp.{partial_equiv_from_equiv};
@@ -118,6 +118,14 @@ impl Model for PathText {
 }
 
 impl PathText {
+    // The path of a text that is known to be one.
+    pub(crate) fn of(text: String) -> PathText
+        requires { refusal_of (string_bytes text) ≡ None }
+        ensures { result ≡ string_bytes text }
+    {
+        PathText { text }
+    }
+
     /// The path that a text is. Its refusals are tested in the order of [`PathError`]; of those with a place the
     /// least place is answered.
     pub fn read(alloc: Global, text: &str) -> Result<PathText, PathError>

@@ -111,7 +111,7 @@ verified_looks d entries own v w =
 
 -- nothing is said while a list is loaded
 load_says_nothing : (d : ℕ) (list : List ℕ) (hashes : HashList) (L : List Event) → LoadCalls d list (Ok hashes) L → said L ≡ []
-load_says_nothing d list hashes L (canonical, whole) = ap said whole.is ∙ said_tiles d list 0 whole.calls whole.tiles
+load_says_nothing d list hashes L (canonical, (files, t)) = ap said t.is ∙ said_tiles d list 0 t.calls t.such.1.tiles
 
 -- how a verification went that came to its verdict
 pub record Came (d : ℕ) (hashes : HashList) (list : List ℕ) (v : Verdict) (mid new : World) : Type 0 where

@@ -27,7 +27,7 @@ use Rattle.verify_run.specs.Calls.{stopped_at_device, AnyMap, Begun, LinesStoppe
 use Rattle.verify_run.specs.Report.{Found, standing, standings, entry_lines, is_absent, is_altered, is_uncheckable, verdict, verdict_line, counted, found_in, found_lines}
 use Rattle.verify_run.specs.Results.{SizesOf, FileTaken, DigestsOf, bytes_read, Follows, entry_calls, EntryChecked, Look, founds, looked, AllFollow, EntriesChecked, FolderChecked, last_lines}
 use Rattle.verify_run.proofs.Lines.{said_then}
-use Rattle.verify_run.proofs.Sizes.{some_size, no_size}
+use Rattle.file_reading.proofs.Sizes.{some_size, no_size}
 use Rattle.verify_run.proofs.Stops.{stopped_before, lines_after, lines_more, lines_as}
 
 -- a drive stays attached

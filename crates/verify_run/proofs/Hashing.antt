@@ -9,8 +9,9 @@ use Rattle.bay_core.specs.Replay.{reads}
 use Rattle.bay_core.specs.World.{World, Honest}
 use Rattle.bay_core.specs.Looks.{read_call, given}
 use Rattle.bay_core.proofs.Looking.{piece_of, one_look, read_looks, looked_before}
-use Rattle.verify_run.specs.Results.{PieceRead, SoFar, FileTaken, Ended, limit_of}
-use Rattle.verify_run.proofs.Pieces.{take_none, so_far_none, so_far_more, asks}
+use Rattle.file_reading.specs.Reads.{PieceRead, SoFar}
+use Rattle.file_reading.proofs.Pieces.{take_none, so_far_none, so_far_more, asks}
+use Rattle.verify_run.specs.Results.{FileTaken, Ended, limit_of}
 
 -- the reads so far, all of them fed to a run of a digest
 pub record Hashed (d : ℕ) (path : List ℕ) (limit at : ℕ) (Fed : List ℕ → Type 0) (old new : World) : Type 0 where

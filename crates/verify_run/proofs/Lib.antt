@@ -1,4 +1,3 @@
-pub mod Pieces
 pub mod Hashing
 pub mod Stops
 pub mod Lines
@@ -6,5 +5,4 @@ pub mod Checks
 pub mod Others
 pub mod Reported
 pub mod Sights
-pub mod Sizes
 pub mod Loads

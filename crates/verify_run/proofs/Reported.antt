@@ -26,7 +26,8 @@ use Rattle.verify_run.specs.declared.verdict.VerifyError.TheVariants.{DriveFaile
 use Rattle.verify_run.specs.Calls.{stopped_at_device, Begun, LinesStopped, ListedAlone}
 use Rattle.verify_run.specs.Report.{Found, verdict_line, entry_lines, verdict, unlisted, found_in, first_lines, report_lines, report_first_lines, report_verdict}
 use Rattle.verify_run.specs.Results.{SizesOf, founds, looked, AllFollow, FolderChecked, last_lines, Verified, VerifyStopped}
-use Rattle.verify_run.proofs.Stops.{stopped_before, drive_silent, halted_stopped, list_halted, begun_none, begun_then}
+use Rattle.file_reading.proofs.Stops.{list_halted}
+use Rattle.verify_run.proofs.Stops.{stopped_before, drive_silent, halted_stopped, begun_none, begun_then}
 use Rattle.verify_run.proofs.Checks.{looked_looks, said_looked}
 
 module _ (d : ℕ) (files : List FileInfo) (es : List HashEntry) (own : List ℕ) (old mid : World) (called : Called (Drive d) (IsCall (DriveList d (Some files))) true old mid)

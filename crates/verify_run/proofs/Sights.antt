@@ -23,7 +23,8 @@ use Rattle.report_text.specs.Shown.{shown}
 use Rattle.verify_run.specs.declared.verdict.Verdict.{Verdict}
 use Rattle.verify_run.specs.declared.verdict.VerifyError.{VerifyError}
 use Rattle.verify_run.specs.Report.{Found, verdict_line, entry_lines, verdict, unlisted}
-use Rattle.verify_run.specs.Results.{bytes_read, Follows, entry_calls, Look, founds, looked, AllFollow, last_lines, Verified, VerifyStopped, AskedUpTo, limit_of, Ended}
+use Rattle.file_reading.specs.Reads.{AskedUpTo}
+use Rattle.verify_run.specs.Results.{bytes_read, Follows, entry_calls, Look, founds, looked, AllFollow, last_lines, Verified, VerifyStopped, limit_of, Ended}
 use Rattle.verify_run.specs.Seen.{is_read_of, reads_of, seen, found_by, ReadToEnd, Reports, Sees}
 use Rattle.verify_run.proofs.Reported.{calls_said}
 

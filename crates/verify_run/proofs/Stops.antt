@@ -1,24 +1,20 @@
 -- What was said before a run stopped.
-use Rattle.std.proofs.Common.{◌≡◌, inl, inr, ℕ, true, false, List, [], ◌∷◌, ◌++◌, length, refl, sym, ◌∙◌, ap, subst, append_assoc, append-nil, arith}
-use Rattle.std.proofs.lemmas.Bool.Decides.{nat_tests}
-use Rattle.std.specs.Prelude.{Option, Some, None, Err, nat_eq}
+use Rattle.std.proofs.Common.{◌≡◌, inl, inr, ℕ, false, List, [], ◌∷◌, ◌++◌, refl, sym, ◌∙◌, ap, subst, append_assoc}
+use Rattle.std.specs.Prelude.{Option, Some}
 use Rattle.bay_core.specs.declared.event.Event.{Event}
 use Rattle.bay_core.specs.declared.event.Event.TheVariants.{AttachSource, AttachDrive, AttachFailed, SourceList, SourceRead, DriveList, DriveRead, Write, Sync, Rename, Remove, Moment, Pick, Say}
-use Rattle.bay_core.specs.declared.event.DriveGot.TheVariants.{Failed}
-use Rattle.bay_core.specs.declared.failed.Failed.{Failed as DeviceFailed}
-use Rattle.bay_core.specs.declared.failed.ListError.{ListError}
-use Rattle.bay_core.specs.declared.failed.ListError.TheVariants.{Failed as ListFailed}
 use Rattle.bay_core.specs.Map.{Map}
 use Rattle.bay_core.specs.Replay.{Device, Drive, Output, device_of, reads}
 use Rattle.bay_core.specs.World.{World, Honest}
-use Rattle.bay_core.specs.Went.{AllOn, Went, Only, Called, Ran, ReadCall, ListCall, no_fault, say_call}
-use Rattle.bay_core.specs.Looks.{Here, Exactly, Looks, AtMost, Caused, Stopped, line_of, said}
-use Rattle.bay_core.proofs.Runs.{went_then, went_such, went_none, rose_since, told_since}
+use Rattle.bay_core.specs.Went.{AllOn, Went, Only, Called, Ran, say_call}
+use Rattle.bay_core.specs.Looks.{Here, Exactly, Looks, Stopped, line_of, said}
+use Rattle.bay_core.proofs.Runs.{went_then, went_such, told_since}
 use Rattle.bay_core.proofs.Honesty.{honest_before}
-use Rattle.bay_core.proofs.Looking.{reads_kept, stops_keep, drive_here, output_here, looks_append, no_looks, stopped_after, say_failed, said_append}
+use Rattle.bay_core.proofs.Looking.{reads_kept, stops_keep, drive_here, output_here, stopped_after, say_failed, said_append}
 use Rattle.verify_run.specs.declared.verdict.VerifyError.{VerifyError}
 use Rattle.verify_run.specs.declared.verdict.VerifyError.TheVariants.{DriveFailed, OutFailed}
-use Rattle.verify_run.specs.Calls.{stopped_at_device, Halted, Silent, Begun, Unsaid, LinesStopped}
+use Rattle.file_reading.specs.Reads.{Halted}
+use Rattle.verify_run.specs.Calls.{stopped_at_device, Silent, Begun, Unsaid, LinesStopped}
 
 -- before a run that stopped an honest drive was honest, with the same map
 pub stopped_before : (d : ℕ) (at : Option Device) (m : Map) (L : List Event) {old new : World} → Stopped d at old new → Honest new d m L → (before : List Event) × Honest old d m before × (reads m L d ≡ reads m before d)
@@ -56,51 +52,6 @@ drive_silent d w = drive_here d (record {
   others = w.others;
   attached = w.attached;
 })
-
-caused_since : (at : Option Device) {On : Device → Type 0} {P : List Event → Type 0} {old mid : World} (new : World) → Went On P old mid → Caused at mid new → Caused at old new
-caused_since None new w c = tt
-caused_since (Some x) new w c = rose_since x (new.faults x) w c
-
--- looks on the drive, and then a run that stopped
-pub halted_after : (d : ℕ) (at : Option Device) (A : List Event) {old mid new : World} → Looks A → Went (Only (Drive d)) (Exactly A) old mid → Halted d at mid new → Halted d at old new
-halted_after d at A looks one two = record {
-  went = went_such (λ L t. record {
-    looks = A ++ t.there.looks;
-    last = t.there.last;
-    is = t.is ∙ (λ i. t.here i ++ t.there.is i) ∙ sym (append_assoc A t.there.looks t.there.last);
-    answered = looks_append A t.there.looks looks t.there.answered;
-    failed = t.there.failed;
-  }) (went_then one two.went);
-  cause = caused_since at _ one two.cause;
-}
-
--- looks on the drive, of which none failed
-pub halted_looks : (d : ℕ) (A : List Event) {old new : World} → Looks A → Went (Only (Drive d)) (Exactly A) old new → Halted d None old new
-halted_looks d A looks one = record {
-  went = went_such (λ L is. record { looks = A; last = []; is = is ∙ sym (append-nil A); answered = looks; failed = refl }) one;
-  cause = tt;
-}
-
--- no call
-pub halted_none : (d : ℕ) (w : World) → Halted d None w w
-halted_none d w = halted_looks d [] no_looks (went_none (Only (Drive d)) w)
-
--- one call on the drive, which failed
-halted_at : (d : ℕ) {P : List Event → Type 0} {old new : World} → ((L : List Event) → P L → AtMost (Some (Drive d)) L) → Called (Drive d) P false old new → Halted d (Some (Drive d)) old new
-halted_at d so called = record {
-  went = went_such (λ L p. record { looks = []; last = L; is = refl; answered = no_looks; failed = so L p }) called.went;
-  cause = called.cause refl;
-}
-
-itself : (d : ℕ) → nat_eq d d ≡ true
-itself d = grind (arith, nat_tests)
-
-pub read_halted : (d : ℕ) (path : List ℕ) (at : ℕ) (into : List ℕ) (e : DeviceFailed) {old new : World} → Called (Drive d) (ReadCall d path at into (Err e)) false old new → Halted d (Some (Drive d)) old new
-read_halted d path at into e called = halted_at d (λ L p. elim p [ inl none ↦ inl none | inr one ↦ inr (DriveRead d path at (length into) Failed, one, itself d) ]) called
-
-pub list_halted : (d : ℕ) (e : ListError) {old new : World} → e ≡ ListFailed → Called (Drive d) (ListCall d (Err e)) (no_fault (Err e)) old new → Halted d (Some (Drive d)) old new
-list_halted d e {old} {new} is called =
-    halted_at d (λ L p. elim p [ inl none ↦ inl none | inr one ↦ inr (DriveList d None, one, itself d) ]) (subst (λ x. Called (Drive d) (ListCall d (Err x)) (no_fault (Err x)) old new) is called)
 
 one_unsaid : (line : List ℕ) (L : List Event) → Ran (say_call line ∷ []) false L → said L ≡ []
 unfolding Ran

@@ -6,8 +6,8 @@ use Rattle.bay_core.specs.declared.event.FileInfo.{FileInfo}
 use Rattle.bay_core.specs.Map.{Map}
 use Rattle.bay_core.specs.Replay.{Device, Drive, Output, reads}
 use Rattle.bay_core.specs.World.{World, Honest}
-use Rattle.bay_core.specs.Went.{Went, Only}
-use Rattle.bay_core.specs.Looks.{Here, Stops, Caused, Stopped, said}
+use Rattle.bay_core.specs.Went.{Went}
+use Rattle.bay_core.specs.Looks.{Here, Stopped, said}
 use Rattle.verify_run.specs.declared.verdict.VerifyError.{VerifyError}
 use Rattle.verify_run.specs.declared.verdict.VerifyError.TheVariants.{DriveFailed, OutFailed, Memory}
 
@@ -16,11 +16,6 @@ abbrev pub stopped_at_device : ℕ → VerifyError → Option Device
 stopped_at_device d DriveFailed = Some (Drive d)
 stopped_at_device d OutFailed = Some Output
 stopped_at_device d Memory = None
-
--- looks on drive d alone, which stopped at a failure of that device; its count rose
-pub record Halted (d : ℕ) (at : Option Device) (old new : World) : Type 0 where
-  pub went : Went (Only (Drive d)) (Stops at) old new
-  pub cause : Caused at old new
 
 -- nothing was said
 abbrev pub Silent : List Event → Type 0

@@ -1,5 +1,5 @@
 -- What each step of a verification found.
-use Rattle.std.specs.Prelude.{◌≡◌, ◌⊎◌, ℕ, ◌+◌, ◌-◌, ◌^◌, ◌≤◌, ◌<◌, min, List, [], ◌∷◌, ◌++◌, map, length, take, drop, Option, Some, None, option_map, unwrap_or}
+use Rattle.std.specs.Prelude.{◌≡◌, ◌⊎◌, ℕ, ◌+◌, ◌-◌, ◌^◌, ◌<◌, min, List, [], ◌∷◌, ◌++◌, map, length, Option, Some, None, option_map, unwrap_or}
 use Rattle.std.specs.List.{flat_map}
 use Rattle.std.specs.FinMap.{get, keys}
 use Rattle.md5.specs.Md5.{md5}
@@ -8,14 +8,15 @@ use Rattle.digest_set.specs.Xxh.{xxh}
 use Rattle.report_text.specs.declared.line.Line.{Line}
 use Rattle.report_text.specs.Line.{line_text}
 use Rattle.bay_core.specs.declared.event.Event.{Event}
-use Rattle.bay_core.specs.declared.event.Event.TheVariants.{DriveList, DriveRead}
+use Rattle.bay_core.specs.declared.event.Event.TheVariants.{DriveList}
 use Rattle.bay_core.specs.declared.event.FileInfo.{FileInfo}
 use Rattle.bay_core.specs.Map.{Map}
 use Rattle.bay_core.specs.Replay.{Drive, reads}
 use Rattle.bay_core.specs.World.{World, Honest}
 use Rattle.bay_core.specs.Went.{Went, Only}
-use Rattle.bay_core.specs.Looks.{Here, Exactly, says, read_call, piece, given, Tiles, Stopped}
+use Rattle.bay_core.specs.Looks.{Here, Exactly, says, piece, given, Tiles, Stopped}
 use Rattle.folder_listing.specs.Listing.{Sizes, listing, names}
+use Rattle.file_reading.specs.Reads.{asked_end, AskedUpTo}
 use Rattle.mhl_writer.specs.declared.values.HashEntry.{HashEntry}
 use Rattle.verify_run.specs.declared.reading.FileRead.{FileRead}
 use Rattle.verify_run.specs.declared.verdict.Standing.{Standing}
@@ -28,33 +29,6 @@ use Rattle.verify_run.specs.Report.{Found, standing, entry_lines, unlisted, unli
 -- the sizes of a folder are those of a map
 abbrev pub SizesOf : Map → Sizes → Type 0
 SizesOf m folder = (q : List ℕ) → get folder q ≡ option_map length (get m q)
-
--- one read of at most so many bytes
-pub record PieceRead (d : ℕ) (path : List ℕ) (at want : ℕ) (got : Option (List ℕ)) (old new : World) : Type 0 where
-  pub went : Went (Only (Drive d)) (Exactly (read_call d path at want got ∷ [])) old new
-  pub within : length (unwrap_or got []) ≤ want
-  pub honest : (m : Map) (L : List Event) → Honest old d m L → (c : List ℕ) → get (reads m L d) path ≡ Some c
-      → (unwrap_or got [] ≡ take (length (unwrap_or got [])) (drop at c)) × (unwrap_or got [] ≡ [] → (want ≡ 0) ⊎ (length c ≤ at))
-  pub absent : (m : Map) (L : List Event) → Honest old d m L → got ≡ None → get (reads m L d) path ≡ None
-
--- the place at which the bytes that a read asked for end
-abbrev pub asked_end : Event → ℕ
-asked_end (DriveRead d path at want got) = at + want
-asked_end _ = 0
-
--- no read asked for a byte past this place
-unfoldable pub AskedUpTo : ℕ → List Event → Type 0
-AskedUpTo limit [] = Unit {0}
-AskedUpTo limit (e ∷ calls) = (asked_end e ≤ limit) × AskedUpTo limit calls
-
--- the reads of one file from its start, and the bytes that they gave
-pub record SoFar (d : ℕ) (path : List ℕ) (limit : ℕ) (bytes : List ℕ) (old new : World) : Type 0 where
-  pub calls : List Event
-  pub went : Went (Only (Drive d)) (Exactly calls) old new
-  pub tiles : Tiles d path 0 calls
-  pub asked : AskedUpTo limit calls
-  pub gave : given calls ≡ bytes
-  pub honest : (m : Map) (L : List Event) → Honest new d m L → (c : List ℕ) → get (reads m L d) path ≡ Some c → bytes ≡ take (length bytes) c
 
 -- the bytes that are asked for at most: one past the listed size
 abbrev pub limit_of : ℕ → ℕ

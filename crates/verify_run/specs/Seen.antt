@@ -11,7 +11,8 @@ use Rattle.folder_listing.specs.Listing.{listing, names}
 use Rattle.mhl_writer.specs.declared.values.HashEntry.{HashEntry}
 use Rattle.verify_run.specs.declared.verdict.Verdict.{Verdict}
 use Rattle.verify_run.specs.Report.{Found, found_in, lines, verdict, unlisted}
-use Rattle.verify_run.specs.Results.{AskedUpTo, limit_of, Ended}
+use Rattle.file_reading.specs.Reads.{AskedUpTo}
+use Rattle.verify_run.specs.Results.{limit_of, Ended}
 
 -- the listing with which the calls begin
 abbrev pub files_in : List Event → List FileInfo

@@ -1,12 +1,13 @@
 // Reading a file of a drive, piece by piece, each piece where the one before ended.
-ghost use Rattle.std.specs.Prelude.{◌≡◌, ◌<◌, ◌≤◌, length, take, Some, MatchResult, IfOk, IfSome, option_map};
+ghost use Rattle.std.specs.Prelude.{◌≡◌, ◌<◌, length, Some, MatchResult};
 ghost use Rattle.bay_core.specs.Replay.{Drive};
-ghost use Rattle.verify_run.specs.Calls.{Halted};
-ghost use Rattle.verify_run.specs.Results.{PieceRead, FileTaken, DigestsOf};
+ghost use Rattle.file_reading.specs.Reads.{Halted};
+ghost use Rattle.verify_run.specs.Results.{FileTaken, DigestsOf};
 
 use crate::kinds::{Unwanted, Wanted};
 use bay_core::{Bay, DriveFailed};
 use digest_set::{Digest, Fan, Md5Run, Sha1Run, XxhRun};
+use file_reading::read_piece;
 use mhl_writer::HashEntry;
 
 /// What the reads of a file gave: its length in bytes, and those of its digests that were wanted.
@@ -30,26 +31,6 @@ type NoM = Unwanted<16>;
 type NoS = Unwanted<20>;
 
 type NoX = Unwanted<8>;
-
-/// One read of at most `want` bytes into the front of `buffer`.
-pub fn read_piece<B: Bay>(
-    bay: &mut B,
-    d: u32,
-    path: &str,
-    at: u64,
-    want: usize,
-    buffer: &mut [u8],
-) -> Result<Option<usize>, DriveFailed>
-    requires drive { d < (B.world bay.old).attached.drives }
-    requires room { want ≤ length buffer.old }
-    ensures bound { IfOk result (λ got. IfSome got (λ n. n ≤ want)) }
-    ensures read { MatchResult result (λ got. PieceRead d path.now at want (option_map (λ n. take n buffer.new) got) (B.world bay.old) (B.world bay.new)) (λ _. Halted d (Some (Drive d)) (B.world bay.old) (B.world bay.new)) }
-{
-    match bay.drive_read(d, path, at, &mut buffer[..want]) {
-        Ok(got) => Ok(got),
-        Err(_) => Err(DriveFailed),
-    }
-}
 
 // Reads a file up to the size in the listing, asks for one byte more, and digests what it reads.
 fn read_file<B: Bay, D: Digest>(

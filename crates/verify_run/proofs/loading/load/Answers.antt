@@ -1,15 +1,30 @@
-use Rattle.std.proofs.Common.{sym, ◌∙◌}
-use Rattle.verify_run.proofs.Loads.{bytes_failed, list_loaded, list_refused, list_wanting}
+use Rattle.std.proofs.Common.{sym, ◌∙◌, inl, inr}
+use Rattle.verify_run.proofs.Loads.{load_failed, load_wanting, list_unlisted, list_absent, list_large, list_loaded, list_refused, list_wanting}
 use Rattle.verify_run.proofs.loading.load.Goals as goal
 
-pub returns-in-Err : goal.returns-in-Err
-returns-in-Err g c = bytes_failed _ _ c.in-Err.e _ _ c.in-Err.ensures
+pub returns-in-Err-DriveFailed : goal.returns-in-Err-DriveFailed
+returns-in-Err-DriveFailed g c = load_failed _ _ _ _ _ c.in-Err-DriveFailed.field-0-is c.in-Err-DriveFailed.ensures.read
+
+pub returns-in-Err-Memory : goal.returns-in-Err-Memory
+returns-in-Err-Memory g c = load_wanting _ _ _ _ _ c.in-Err-Memory.field-0-is c.in-Err-Memory.ensures.read
+
+pub returns-in-Unlisted : goal.returns-in-Unlisted
+returns-in-Unlisted g c = elim c.in-Unlisted.is [
+  | inl is ↦ list_unlisted _ _ c.in-Ok.found.files.items _ _ c.in-Ok.found.content is c.in-Ok.ensures.read
+  | inr is ↦ list_absent _ _ c.in-Ok.found.files.items _ _ c.in-Ok.found.content is c.in-Ok.ensures.read
+]
+
+pub returns-in-TooLarge : goal.returns-in-TooLarge
+returns-in-TooLarge g c = list_large _ _ c.in-Ok.found.files.items _ _ c.in-Ok.found.content c.in-TooLarge.len c.in-TooLarge.is c.in-Ok.ensures.read
 
 pub returns-in-Ok-read_list : goal.returns-in-Ok-read_list
-returns-in-Ok-read_list g c = list_loaded _ _ c.in-Ok.text.items _ _ _ c.in-Ok.ensures c.in-Ok-read_list.ensures.found.0 (sym c.deref.ensures.value ∙ c.in-Ok-read_list.ensures.found.1)
+returns-in-Ok-read_list g c =
+    list_loaded _ _ c.in-Ok.found.files.items _ _ c.in-Ok.found.content c.in-Bytes.text c.in-Bytes.is c.in-Ok.ensures.read _ c.in-Ok-read_list.ensures.found.0 (sym c.deref.ensures.value ∙ c.in-Ok-read_list.ensures.found.1)
 
 pub returns-in-Err-NotYet : goal.returns-in-Err-NotYet
-returns-in-Err-NotYet g c = list_refused _ _ c.in-Ok.text.items _ _ c.in-Ok.ensures (λ l canonical is. c.in-Err-NotYet.ensures.refused c.in-Err-NotYet.field-0-is l canonical (c.deref.ensures.value ∙ is))
+returns-in-Err-NotYet g c =
+    list_refused _ _ c.in-Ok.found.files.items _ _ c.in-Ok.found.content c.in-Bytes.text c.in-Bytes.is c.in-Ok.ensures.read
+    (λ l canonical is. c.in-Err-NotYet.ensures.refused c.in-Err-NotYet.field-0-is l canonical (c.deref.ensures.value ∙ is))
 
 pub returns : goal.returns
-returns g c = list_wanting _ _ c.in-Ok.text.items _ _ c.in-Ok.ensures
+returns g c = list_wanting _ _ c.in-Ok.found.files.items _ _ c.in-Ok.found.content c.in-Bytes.text c.in-Bytes.is c.in-Ok.ensures.read

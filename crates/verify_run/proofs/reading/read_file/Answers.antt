@@ -1,6 +1,6 @@
 use Rattle.std.proofs.Common.{rules, arith}
 use Rattle.bay_core.proofs.Looking.{tiles_look}
-use Rattle.verify_run.proofs.Stops.{halted_after}
+use Rattle.file_reading.proofs.Stops.{halted_after}
 use Rattle.verify_run.proofs.Hashing.{hashed_none, hashed_more, taken_end, taken_limit, few}
 use Rattle.verify_run.proofs.reading.read_file.Goals as goal
 

@@ -1,0 +1,13 @@
+pub mod Texts
+pub mod Exact
+pub mod Leads
+pub mod Files
+pub mod Plans
+pub mod Taking
+pub mod Heads
+pub mod Above
+pub mod Behind
+pub mod Taken
+pub mod Arranged
+pub mod Whole
+pub mod Lengths

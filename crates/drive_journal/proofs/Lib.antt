@@ -1,0 +1,11 @@
+pub mod Trying
+pub mod Fields
+pub mod Whole
+pub mod Keeping
+pub mod Opening
+pub mod Placing
+pub mod Removing
+pub mod Records
+pub mod Entries
+pub mod Looked
+pub mod Journals

@@ -1,0 +1,150 @@
+-- The calls that publish a file leave it whole or as it was.
+use Rattle.std.proofs.Common.{◌≡◌, ◌≢◌, inl, inr, ℕ, ◌+◌, Bool, true, false, List, [], ◌∷◌, ◌++◌, map, length, refl, sym, ◌∙◌, ap, subst, append-nil, arith}
+use Rattle.std.proofs.lemmas.List.{drop_all}
+use Rattle.std.specs.Prelude.{Some, None, unwrap_or}
+use Rattle.std.specs.FinMap.{get, insert, remove}
+use Rattle.bay_core.specs.declared.event.Event.{Event}
+use Rattle.bay_core.specs.declared.event.Event.TheVariants.{Write, Rename}
+use Rattle.bay_core.specs.Map.{Map, content, overwritten, moved, copied}
+use Rattle.bay_core.specs.Paths.{new_path}
+use Rattle.bay_core.specs.Replay.{Drive, changed, replayed, reads, calls_on}
+use Rattle.bay_core.specs.Left.{LeftBy, LeftAfter, Left}
+use Rattle.bay_core.specs.World.{World}
+use Rattle.bay_core.specs.Crashes.{Leaves, Rests}
+use Rattle.bay_core.specs.Went.{Only, Ran, Tried, sync_call, rename_call}
+use Rattle.bay_core.proofs.Maps.{insert_here, insert_other, remove_here, remove_other, moved_file, copied_here, copied_other}
+use Rattle.bay_core.proofs.Crash.{Goes, front_goes, left_any, calls_all}
+use Rattle.bay_core.proofs.Readable.{reads_left}
+use Rattle.bay_core.proofs.Replays.{reads-append}
+use Rattle.bay_core.proofs.Runs.{since_made, told_since, all_ran, AllOn-front}
+use Rattle.drive_journal.specs.Calls.{publish_calls}
+use Rattle.drive_journal.specs.Steps.{NoScratch, IsWhole, IsThere}
+
+-- bytes written at the start of nothing
+written_new : (bytes : List ℕ) → overwritten [] 0 bytes ≡ bytes
+written_new bytes = ap (λ (l : List ℕ). bytes ++ l) (drop_all (0 + length bytes) [] (omega arith)) ∙ append-nil bytes
+
+module _ (d : ℕ) (to bytes : List ℕ) (differ : to ≢ new_path) (R : Map) (absent : get R new_path ≡ None) where
+  abbrev R1 : Map
+  R1 = changed R (Write d new_path 0 bytes true)
+
+  abbrev R2 : Map
+  R2 = changed R1 (Rename d new_path to true)
+
+  content_none : content R new_path ≡ []
+  content_none = ap (λ o. unwrap_or o []) absent
+
+  R1_is : R1 ≡ insert R new_path bytes
+  R1_is = ap (insert R new_path) (ap (λ c. overwritten c 0 bytes) content_none ∙ written_new bytes)
+
+  whole_R1 : IsWhole to bytes R R1
+  whole_R1 = subst (IsWhole to bytes R) (sym R1_is) (record { at = inl (insert_other R new_path bytes to differ); others = λ q scratch other. insert_other R new_path bytes q scratch })
+
+  R1_scratch : get R1 new_path ≡ Some bytes
+  R1_scratch = ap (λ m. get m new_path) R1_is ∙ insert_here R new_path bytes
+
+  R2_is : R2 ≡ insert (remove R1 new_path) to bytes
+  R2_is = moved_file R1 new_path to bytes R1_scratch
+
+  R2_others : (q : List ℕ) → q ≢ new_path → q ≢ to → get R2 q ≡ get R q
+  R2_others q scratch other =
+      ap (λ m. get m q) R2_is ∙ insert_other _ to bytes q other ∙ remove_other R1 new_path q scratch
+      ∙ ap (λ m. get m q) R1_is ∙ insert_other R new_path bytes q scratch
+
+  R2_file : get R2 to ≡ Some bytes
+  R2_file = ap (λ m. get m to) R2_is ∙ insert_here _ to bytes
+
+  whole_R2 : IsWhole to bytes R R2
+  whole_R2 = record { at = inr R2_file; others = R2_others }
+
+  there_R2 : IsThere to bytes R R2
+  there_R2 = record {
+    file = R2_file;
+    no_scratch = ap (λ m. get m new_path) R2_is ∙ insert_other _ to bytes new_path (λ e. differ (sym e)) ∙ remove_here R1 new_path;
+    others = R2_others;
+  }
+
+  -- the file under both names
+  whole_both : IsWhole to bytes R (copied R1 new_path to)
+  whole_both = record {
+    at = inr (copied_here R1 new_path to bytes R1_scratch);
+    others = λ q scratch other. copied_other R1 new_path to q other ∙ ap (λ m. get m q) R1_is ∙ insert_other R new_path bytes q scratch;
+  }
+
+  torn_rename : (ok : Bool) (I : Map) → LeftAfter (Rename d new_path to ok) R1 (λ J. J ≡ R1) I → IsWhole to bytes R I
+  torn_rename ok I (J, is, inl same) = subst (IsWhole to bytes R) (sym (same ∙ is)) whole_R1
+  torn_rename ok I (J, is, inr (inl done)) = subst (IsWhole to bytes R) (sym (done ∙ ap (λ m. moved m new_path to) is)) whole_R2
+  torn_rename ok I (J, is, inr (inr both)) = subst (IsWhole to bytes R) (sym (both ∙ ap (λ m. copied m new_path to) is)) whole_both
+
+  -- from what was left before, of which what is read is one
+  module _ (S : Map → Type 0) (s : S R) where
+    abbrev Way : Map → Type 0
+    Way I = (J : Map) × S J × IsWhole to bytes J I
+
+    same : (J I : Map) → I ≡ J → IsWhole to bytes J I
+    same J I is = record { at = inl (ap (λ m. get m to) is); others = λ q scratch other. ap (λ m. get m q) is }
+
+    -- a write of the scratch file, done, torn or failed
+    torn_write : (ok : Bool) (I : Map) → LeftAfter (Write d new_path 0 bytes ok) R S I → Way I
+    torn_write ok I (J, l, inl is) = (J, l, same J I is)
+    torn_write ok I (J, l, inr (c, torn, put)) = (
+      J,
+      l,
+      record {
+        at = inl (ap (λ m. get m to) put ∙ insert_other J new_path c to differ);
+        others = λ q scratch other. ap (λ m. get m q) put ∙ insert_other J new_path c q scratch;
+      },
+    )
+
+    abbrev S1 : Map → Type 0
+    S1 = LeftAfter (Write d new_path 0 bytes true) R S
+
+    abbrev S3 : Map → Type 0
+    S3 = LeftAfter (Rename d new_path to true) R1 (λ J. J ≡ R1)
+
+    way4 : (P : List Event) (I : Map) → Goes (sync_call d ∷ []) P → LeftBy P R2 S3 I → IsWhole to bytes R I
+    way4 P I (inl none) left = torn_rename true I (subst (λ K. LeftBy K R2 S3 I) none left)
+    way4 P I (inr (inl failed)) left = torn_rename true I (subst (λ K. LeftBy K R2 S3 I) failed left)
+    way4 P I (inr (inr (rest, is, none))) left =
+        let at_rest : I ≡ R2 = subst (λ K. LeftBy K R2 (λ J. J ≡ R2) I) none (subst (λ K. LeftBy K R2 S3 I) is left) in
+        subst (IsWhole to bytes R) (sym at_rest) whole_R2
+
+    way3 : (P : List Event) (I : Map) → Goes (rename_call d new_path to ∷ sync_call d ∷ []) P → LeftBy P R1 (λ J. J ≡ R1) I → IsWhole to bytes R I
+    way3 P I (inl none) left = subst (IsWhole to bytes R) (sym (subst (λ K. LeftBy K R1 (λ J. J ≡ R1) I) none left)) whole_R1
+    way3 P I (inr (inl failed)) left = torn_rename false I (subst (λ K. LeftBy K R1 (λ J. J ≡ R1) I) failed left)
+    way3 P I (inr (inr (rest, is, goes))) left = way4 rest I goes (subst (λ K. LeftBy K R1 (λ J. J ≡ R1) I) is left)
+
+    way2 : (P : List Event) (I : Map) → Goes (sync_call d ∷ rename_call d new_path to ∷ sync_call d ∷ []) P → LeftBy P R1 S1 I → Way I
+    way2 P I (inl none) left = torn_write true I (subst (λ K. LeftBy K R1 S1 I) none left)
+    way2 P I (inr (inl failed)) left = torn_write true I (subst (λ K. LeftBy K R1 S1 I) failed left)
+    way2 P I (inr (inr (rest, is, goes))) left = (R, s, way3 rest I goes (subst (λ K. LeftBy K R1 S1 I) is left))
+
+    pub way : (P : List Event) (I : Map) → Goes (publish_calls d to bytes) P → LeftBy P R S I → Way I
+    way P I (inl none) left = (I, subst (λ K. LeftBy K R S I) none left, same I I refl)
+    way P I (inr (inl failed)) left = torn_write false I (subst (λ K. LeftBy K R S I) failed left)
+    way P I (inr (inr (rest, is, goes))) left = way2 rest I goes (subst (λ K. LeftBy K R S I) is left)
+
+pub publish_leaves : (d : ℕ) (to bytes : List ℕ) → to ≢ new_path → (ok : Bool) (old new : World) → Tried d (publish_calls d to bytes) ok old new → Leaves d NoScratch (IsWhole to bytes) old new
+publish_leaves d to bytes differ ok old new t = record {
+  any_moment = λ m before since rest honest absent now I left.
+      let s = since_made t.went before (since ++ rest) honest.events now in
+      let goes = front_goes (publish_calls d to bytes) ok (since ++ rest) since rest s.such refl in
+      let mine = calls_all d since (AllOn-front (Only (Drive d)) since rest s.on) in
+      let R = reads m before d in
+      way d to bytes differ R absent (Left m before d) (reads_left m before d) since I goes (subst (λ K. LeftBy K R (Left m before d) I) mine (left_any m before since d I left));
+}
+
+pub publish_rests : (d : ℕ) (to bytes : List ℕ) → to ≢ new_path → (ok : Bool) (old new : World) → Tried d (publish_calls d to bytes) ok old new → Rests d NoScratch (IsThere to bytes) ok old new
+publish_rests d to bytes differ ok old new t = record {
+  done = λ y m before all honest absent now.
+      let s = told_since t.went before all honest.events now in
+      let R = reads m before d in
+      let four : s.since ≡ map (λ c. c true) (publish_calls d to bytes) = all_ran (publish_calls d to bytes) s.since (subst (λ b. Ran (publish_calls d to bytes) b s.since) y s.such) in
+      let mine : calls_on d s.since ≡ map (λ c. c true) (publish_calls d to bytes) = calls_all d s.since s.on ∙ four in
+      let now_is : reads m all d ≡ R2 d to bytes differ R absent = ap (λ K. reads m K d) s.is ∙ reads-append m before s.since d ∙ ap (replayed R) mine in (
+        λ I left.
+            let at_rest : I ≡ R2 d to bytes differ R absent = subst (λ K. LeftBy K R (Left m before d) I) mine (left_any m before s.since d I (subst (λ K. Left m K d I) s.is left)) in
+            at_rest ∙ sym now_is,
+        subst (IsThere to bytes R) (sym now_is) (there_R2 d to bytes differ R absent),
+      );
+}

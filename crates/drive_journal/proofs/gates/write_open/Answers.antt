@@ -1,0 +1,11 @@
+use Rattle.drive_journal.proofs.Trying.{tried_first, tried_last, tried_exit}
+use Rattle.drive_journal.proofs.gates.write_open.Goals as goal
+
+pub returns-in_err-write : goal.returns-in_err-write
+returns-in_err-write g c = tried_exit _ _ _ _ c.from_residual.ensures.1 (tried_last _ _ _ c.in_err-write.ensures)
+
+pub returns-in_err-sync : goal.returns-in_err-sync
+returns-in_err-sync g c = tried_exit _ _ _ _ c.from_residual-in_err-sync.ensures.1 (tried_first _ _ _ _ c.in_ok-write.ensures c.in_err-sync.ensures)
+
+pub returns : goal.returns
+returns g c = tried_first _ _ _ _ c.in_ok-write.ensures c.in_ok-sync.ensures

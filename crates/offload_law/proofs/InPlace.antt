@@ -1,0 +1,110 @@
+-- Sealing in place is safe.
+use Rattle.std.proofs.Common.{◌≡◌, ◌⊎◌, inl, inr, ℕ, suc, true, false, List, Some, IsTrue, refl, sym, ap, ◌∙◌, subst}
+use Rattle.std.proofs.lemmas.Bool.{false≢true}
+use Rattle.bay_core.specs.declared.event.Event.{Event}
+use Rattle.bay_core.specs.declared.event.Event.TheVariants.{AttachSource, AttachDrive, AttachFailed, SourceList, SourceRead, DriveList, DriveRead, Write, Sync, Rename, Remove, Moment, Pick, Say}
+use Rattle.std.specs.FinMap.{get}
+use Rattle.bay_core.specs.Map.{Map, moved}
+use Rattle.bay_core.specs.Torn.{Torn}
+use Rattle.bay_core.specs.Replay.{changed}
+use Rattle.crash_law.specs.Protocol.{failed}
+use Rattle.bay_core.specs.Looks.{is_change}
+use Rattle.crash_law.specs.Protocol.{IsSafe, is_done}
+use Rattle.bay_core.proofs.Changes.{Renamed, moved_renamed, torn_renamed, torn_other}
+use Rattle.bay_core.specs.Paths.{IsScratch, new_path}
+use Rattle.offload_law.specs.InPlace.{Seal, Open, Shut, steps, IsSeal, SealPrepares, SealCommits, shuts, seal_in_place}
+
+module _ (list : List ℕ) (not_scratch : IsScratch list → ⊥) (base : Map) where
+  scratch_keeps : (s : Seal) (m new : Map) → IsSeal list base s m → ((q : List ℕ) → (IsScratch q → ⊥) → get new q ≡ get m q) → IsSeal list base s new
+  scratch_keeps s m new h e = record {
+    at_list = e list not_scratch ∙ h.at_list;
+    elsewhere = λ q a b. e q a ∙ h.elsewhere q a b;
+  }
+
+  prepared : (s : Seal) (e : Event) (m new : Map) → SealPrepares s e → IsSeal list base s m → Torn e m new → IsSeal list base s new
+  prepared s (Write d path at piece ok) m new free h torn = scratch_keeps s m new h (λ q f. torn_other (Write d path at piece ok) m new torn q (λ e. f (subst IsScratch (sym e) free)))
+  prepared s (Remove d path ok) m new free h torn = scratch_keeps s m new h (λ q f. torn_other (Remove d path ok) m new torn q (λ e. f (subst IsScratch (sym e) free)))
+  prepared s (Rename d from to ok) m new free h torn = absurd free
+  prepared s (AttachDrive d place) m new free h torn = absurd free
+  prepared s (AttachSource n place) m new free h torn = absurd free
+  prepared s (SourceList n got) m new free h torn = absurd free
+  prepared s (SourceRead n path at want got) m new free h torn = absurd free
+  prepared s (AttachFailed place) m new free h torn = absurd free
+  prepared s (DriveList d got) m new free h torn = absurd free
+  prepared s (DriveRead d path at want got) m new free h torn = absurd free
+  prepared s (Moment t0) m new free h torn = absurd free
+  prepared s (Sync d ok) m new free h torn = absurd free
+  prepared s (Pick n) m new free h torn = absurd free
+  prepared s (Say line ok) m new free h torn = absurd free
+
+  shut : (m new : Map) → Renamed m new new_path list → (text : List ℕ) → get m new_path ≡ Some text → IsSeal list base Open m → IsSeal list base (Shut text) new
+  shut m new to text is h = record {
+    at_list = to.here text is;
+    elsewhere = λ q a b. to.other q (λ e. a (inl e)) b ∙ h.elsewhere q a b;
+  }
+
+  committed : {m new : Map} {s t : Seal} {e : Event} → SealCommits list m s e t → IsSeal list base s m → Torn e m new → IsSeal list base s new ⊎ IsSeal list base t new
+  committed {m = m} {new = new} (shuts {d = d} {ok = ok} {text = text} is) h torn = elim (torn_renamed d ok m new new_path list torn) [
+    | inl same ↦ inl (subst (IsSeal list base Open) (sym same) h)
+    | inr to ↦ inr (shut m new to text is h)
+  ]
+
+  done : {m : Map} {s t : Seal} {e : Event} → SealCommits list m s e t → is_done e ≡ true → IsSeal list base s m → IsSeal list base t (changed m e)
+  done {m = m} (shuts {ok = true} {text = text} is) t h = shut m (moved m new_path list) (moved_renamed m new_path list) text is h
+  done (shuts {ok = false} is) t h = absurd (false≢true t)
+
+  prepares_failed : (s : Seal) (e : Event) → SealPrepares s e → SealPrepares s (failed e)
+  prepares_failed s (Write d path at piece ok) h = h
+  prepares_failed s (Remove d path ok) h = h
+  prepares_failed s (Rename d from to ok) h = absurd h
+  prepares_failed s (AttachDrive d place) h = absurd h
+  prepares_failed s (AttachSource n place) h = absurd h
+  prepares_failed s (SourceList n got) h = absurd h
+  prepares_failed s (SourceRead n path at want got) h = absurd h
+  prepares_failed s (AttachFailed place) h = absurd h
+  prepares_failed s (DriveList d got) h = absurd h
+  prepares_failed s (DriveRead d path at want got) h = absurd h
+  prepares_failed s (Moment t0) h = absurd h
+  prepares_failed s (Sync d ok) h = absurd h
+  prepares_failed s (Pick n) h = absurd h
+  prepares_failed s (Say line ok) h = absurd h
+
+  prepares_change : (s : Seal) (e : Event) → SealPrepares s e → IsTrue (is_change e)
+  prepares_change s (Write d path at piece ok) h = refl
+  prepares_change s (Remove d path ok) h = refl
+  prepares_change s (Rename d from to ok) h = absurd h
+  prepares_change s (AttachDrive d place) h = absurd h
+  prepares_change s (AttachSource n place) h = absurd h
+  prepares_change s (SourceList n got) h = absurd h
+  prepares_change s (SourceRead n path at want got) h = absurd h
+  prepares_change s (AttachFailed place) h = absurd h
+  prepares_change s (DriveList d got) h = absurd h
+  prepares_change s (DriveRead d path at want got) h = absurd h
+  prepares_change s (Moment t0) h = absurd h
+  prepares_change s (Sync d ok) h = absurd h
+  prepares_change s (Pick n) h = absurd h
+  prepares_change s (Say line ok) h = absurd h
+
+  commits_failed : {m : Map} {s t : Seal} {e : Event} → SealCommits list m s e t → SealCommits list m s (failed e) t
+  commits_failed (shuts is) = shuts is
+
+  rises : {m : Map} {s t : Seal} {e : Event} → SealCommits list m s e t → steps t ≡ 1
+  rises (shuts is) = refl
+
+  starts : {m : Map} {s t : Seal} {e : Event} → SealCommits list m s e t → steps s ≡ 0
+  starts (shuts is) = refl
+
+  commits_change : {m : Map} {s t : Seal} {e : Event} → SealCommits list m s e t → IsTrue (is_change e)
+  commits_change (shuts is) = refl
+
+  pub safe : (announces : List ℕ → ℕ) → IsSafe (seal_in_place list announces base)
+  safe announces = record {
+    prepared = prepared;
+    committed = λ s t e m new c h torn. committed c h torn;
+    done = λ s t e m c h is. done c is h;
+    rises = λ s t e m c. rises c ∙ ap suc (sym (starts c));
+    prepares_failed = prepares_failed;
+    commits_failed = λ s t e m c. commits_failed c;
+    prepares_change = prepares_change;
+    commits_change = λ s t e m c. commits_change c;
+  }

@@ -1,0 +1,10 @@
+pub mod Plans
+pub mod Recorded
+pub mod Stages
+pub mod Prepared
+pub mod Committed
+pub mod Safe
+pub mod InPlace
+pub mod Unique
+pub mod Runs
+pub mod Said

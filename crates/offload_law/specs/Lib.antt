@@ -1,0 +1,6 @@
+pub mod Sealing
+pub mod Stages
+pub mod Lines
+pub mod Steps
+pub mod InPlace
+pub mod Runs

@@ -1,0 +1,63 @@
+//! How far an offload of a card comes on a drive, and what a stop leaves of it.
+#![tactic(auto)]
+
+ghost use Rattle.std.specs.Prelude.{◌≡◌, ◌≢◌, ℕ, List, ◌∷◌, ◌++◌, ◌^◌, ◌<◌, ◌≤◌, suc, length};
+ghost use Rattle.bay_core.specs.declared.event.Event.{Event};
+ghost use Rattle.bay_core.specs.Map.{Map};
+ghost use Rattle.bay_core.specs.Left.{Left};
+ghost use Rattle.bay_core.specs.Paths.{IsScratch};
+ghost use Rattle.crash_law.specs.Protocol.{State, IsIn, Announced};
+ghost use Rattle.crash_law.specs.Law.{CrashLaw};
+ghost use Rattle.copy_plan.specs.declared.file.PlannedFile.{PlannedFile};
+ghost use Rattle.copy_plan.specs.Plan.{PlanValue, IsPlan, list_of};
+ghost use Rattle.offload_law.specs.Lines.{announces, begun_text, done_text, sealed_text};
+ghost use Rattle.offload_law.specs.Stages.{Offload, Stage, IsAt, IsAfter, KeepsRest, progress};
+ghost use Rattle.offload_law.specs.Steps.{offload};
+ghost use Rattle.offload_law.specs.InPlace.{seal_in_place};
+ghost use Rattle.offload_law.specs.Runs.{LeftByRuns};
+
+/// Wherever a run that keeps to the steps stops, within a write too, the drive is left with a prefix of the offload's
+/// steps that holds every step announced for it, and at most one more.
+pub fn crash_prefix()
+    ensures { (o : Offload) → IsPlan o.plan → (start : Map) (s : Stage) → IsAt o start s →
+        (d : ℕ) (L more : List Event) (end : State (offload d o start)) → IsIn (offload d o start) d start s (L ++ more) end →
+        (I : Map) → Left start L d I →
+        (steps : ℕ) × IsAfter o I steps × KeepsRest o.plan I start steps
+        × (Announced (offload d o start) (progress o.plan s) L ≤ steps)
+        × (steps ≤ suc (Announced (offload d o start) (progress o.plan s) L)) }
+{}
+
+/// Once the line `sealed` of a drive was said, each stop leaves all its steps.
+pub fn sealed_for_good()
+    ensures { (o : Offload) → IsPlan o.plan → (start : Map) (s : Stage) → IsAt o start s →
+        (d : ℕ) (L more : List Event) (end : State (offload d o start)) → IsIn (offload d o start) d start s (L ++ more) end →
+        suc (suc (length o.plan.files)) ≤ Announced (offload d o start) (progress o.plan s) L →
+        (I : Map) → Left start L d I → IsAfter o I (suc (suc (length o.plan.files))) }
+{}
+
+/// Any number of runs, each stopped at some moment, leave a prefix of the steps, and none takes one back.
+pub fn after_runs()
+    ensures { (o : Offload) → IsPlan o.plan → (base m : Map) (s : Stage) → IsAt o base s → LeftByRuns o base m →
+        (steps : ℕ) × IsAfter o m steps × KeepsRest o.plan m base steps × (progress o.plan s ≤ steps) }
+{}
+
+/// A map is after one number of steps at most.
+pub fn one_progress()
+    ensures { (o : Offload) → IsPlan o.plan → (m : Map) (j k : ℕ) → IsAfter o m j → IsAfter o m k → j ≡ k }
+{}
+
+/// A list that is sealed in place is whole or absent at any moment, and every other file stays.
+pub fn sealed_in_place()
+    ensures { (list : List ℕ) → (IsScratch list → ⊥) → (announces : List ℕ → ℕ) (base : Map) → CrashLaw (seal_in_place list announces base) }
+{}
+
+/// A drive's own lines announce its steps: `begun` and `done` one more than its records, `sealed` all. Those of another
+/// drive announce none for it.
+pub fn announced_steps()
+    ensures begun { (d : ℕ) (p : PlanValue) → IsPlan p → (k : ℕ) → k ≤ length p.files → announces d p (begun_text d k (length p.files)) ≡ suc k }
+    ensures done { (d : ℕ) (p : PlanValue) → IsPlan p → (before : List PlannedFile) (f : PlannedFile) (after : List PlannedFile) → p.files ≡ before ++ f ∷ after → announces d p (done_text d (suc (length before)) (length p.files) f.path) ≡ suc (suc (length before)) }
+    ensures sealed { (d : ℕ) (p : PlanValue) → IsPlan p → announces d p (sealed_text d (length p.files) (list_of p)) ≡ suc (suc (length p.files)) }
+    ensures begun_elsewhere { (d e : ℕ) (p : PlanValue) → d < 2 ^ 64 → e < 2 ^ 64 → d ≢ e → (k m : ℕ) → announces d p (begun_text e k m) ≡ 0 }
+    ensures done_elsewhere { (d e : ℕ) (p : PlanValue) → d < 2 ^ 64 → e < 2 ^ 64 → d ≢ e → (k m : ℕ) (path : List ℕ) → announces d p (done_text e k m path) ≡ 0 }
+    ensures sealed_elsewhere { (d e : ℕ) (p : PlanValue) → d < 2 ^ 64 → e < 2 ^ 64 → d ≢ e → (m : ℕ) (list : List ℕ) → announces d p (sealed_text e m list) ≡ 0 }
+{}
