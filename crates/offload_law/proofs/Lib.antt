@@ -8,3 +8,4 @@ pub mod InPlace
 pub mod Unique
 pub mod Runs
 pub mod Said
+pub mod Clear

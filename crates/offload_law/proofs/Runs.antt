@@ -29,7 +29,7 @@ told_step P (Remove d path ok) told = omega arith
 told_step P (Pick n) told = omega arith
 
 -- announced steps never fall
-told_more : (P : Protocol) (events : List Event) (told : ℕ) → told ≤ Announced P told events
+pub told_more : (P : Protocol) (events : List Event) (told : ℕ) → told ≤ Announced P told events
 told_more P [] told = omega arith
 told_more P (e ∷ events) told = omega (arith, told_step P e told, told_more P events (told_after P e told))
 

@@ -4,3 +4,4 @@ pub mod Lines
 pub mod Steps
 pub mod InPlace
 pub mod Runs
+pub mod Clear

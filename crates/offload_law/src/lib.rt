@@ -1,8 +1,9 @@
 //! How far an offload of a card comes on a drive, and what a stop leaves of it.
 #![tactic(auto)]
 
-ghost use Rattle.std.specs.Prelude.{◌≡◌, ◌≢◌, ℕ, List, ◌∷◌, ◌++◌, ◌^◌, ◌<◌, ◌≤◌, suc, length};
+ghost use Rattle.std.specs.Prelude.{◌≡◌, ◌≢◌, ℕ, List, ◌∷◌, ◌++◌, ◌^◌, ◌<◌, ◌≤◌, suc, Bool, true, length};
 ghost use Rattle.bay_core.specs.declared.event.Event.{Event};
+ghost use Rattle.bay_core.specs.declared.event.Event.TheVariants.{Say};
 ghost use Rattle.bay_core.specs.Map.{Map};
 ghost use Rattle.bay_core.specs.Left.{Left};
 ghost use Rattle.bay_core.specs.Paths.{IsScratch};
@@ -10,6 +11,7 @@ ghost use Rattle.crash_law.specs.Protocol.{State, IsIn, Announced};
 ghost use Rattle.crash_law.specs.Law.{CrashLaw};
 ghost use Rattle.copy_plan.specs.declared.file.PlannedFile.{PlannedFile};
 ghost use Rattle.copy_plan.specs.Plan.{PlanValue, IsPlan, list_of};
+ghost use Rattle.offload_law.specs.Clear.{clear_text, is_called_sealed, sealed_drives, CountsSealed};
 ghost use Rattle.offload_law.specs.Lines.{announces, begun_text, done_text, sealed_text};
 ghost use Rattle.offload_law.specs.Stages.{Offload, Stage, IsAt, IsAfter, KeepsRest, progress};
 ghost use Rattle.offload_law.specs.Steps.{offload};
@@ -33,6 +35,21 @@ pub fn sealed_for_good()
         (d : ℕ) (L more : List Event) (end : State (offload d o start)) → IsIn (offload d o start) d start s (L ++ more) end →
         suc (suc (length o.plan.files)) ≤ Announced (offload d o start) (progress o.plan s) L →
         (I : Map) → Left start L d I → IsAfter o I (suc (suc (length o.plan.files))) }
+{}
+
+/// A drive whose line `sealed` is said has all its steps at each stop from then on.
+pub fn called_sealed()
+    ensures { (o : Offload) → IsPlan o.plan → (start : Map) (s : Stage) → IsAt o start s →
+        (d : ℕ) (L more : List Event) (end : State (offload d o start)) → IsIn (offload d o start) d start s (L ++ more) end →
+        is_called_sealed o.plan L d ≡ true →
+        (I : Map) → Left start L d I → IsAfter o I (suc (suc (length o.plan.files))) }
+{}
+
+/// Where the card is called clear, as many drives as are required were called sealed before.
+pub fn called_clear()
+    ensures { (p : PlanValue) (drives copies : ℕ) (L : List Event) → CountsSealed p drives copies L →
+        (before after : List Event) (sealed required : ℕ) (ok : Bool) → L ≡ before ++ Say (clear_text sealed required) ok ∷ after →
+        copies ≤ sealed_drives p L drives }
 {}
 
 /// Any number of runs, each stopped at some moment, leave a prefix of the steps, and none takes one back.
