@@ -1,7 +1,7 @@
 -- How far an offload of a card has come on a drive.
 use Rattle.std.specs.Prelude.{◌≡◌, ◌⊎◌, ℕ, suc, ◌<◌, ◌≤◌, List, [], ◌∷◌, ◌++◌, length, Some, None}
 use Rattle.std.specs.FinMap.{get}
-use Rattle.bay_core.specs.Map.{Map, content}
+use Rattle.bay_core.specs.Map.{Map, Dates, content}
 use Rattle.bay_core.specs.Paths.{journal_path, IsScratch}
 use Rattle.path_text.specs.Moment.{last_moment}
 use Rattle.digest_set.specs.Triple.{triple}
@@ -81,6 +81,17 @@ IsTouched p steps q = IsScratch q ⊎ ((0 < steps) × (q ≡ journal_path)) ⊎ 
 pub record KeepsRest (p : PlanValue) (m base : Map) (steps : ℕ) : Type 0 where
   pub same : (q : List ℕ) → (IsTouched p steps q → ⊥) → get m q ≡ get base q
 
+-- a file of the plan is on the card, with this size and date
+pub record IsOnCard (card : Map) (dates : Dates) (f : PlannedFile) : Type 0 where
+  pub there : get card f.path ≡ Some (card_bytes card f)
+  pub size : f.size ≡ length (card_bytes card f)
+  pub date : get dates f.path ≡ Some f.modified
+
+-- a plan of the card: its files are just those of the card
+pub record IsOfCard (card : Map) (dates : Dates) (p : PlanValue) : Type 0 where
+  pub on_card : (before after : List PlannedFile) (f : PlannedFile) → p.files ≡ before ++ f ∷ after → IsOnCard card dates f
+  pub all : (q bytes : List ℕ) → get card q ≡ Some bytes → (before after : List PlannedFile) × (f : PlannedFile) × (p.files ≡ before ++ f ∷ after) × (q ≡ f.path)
+
 -- a drive that a run on this card left: it has no journal, or it stands after some steps of an offload of the card
-abbrev pub IsOurs : (IsOfCard : PlanValue → Type 0) → Map → Map → Type 0
-IsOurs IsOfCard card m = (get m journal_path ≡ None) ⊎ ((p : PlanValue) × (steps : ℕ) × IsOfCard p × IsPlan p × IsAfter (record { plan = p; card = card }) m (suc steps))
+abbrev pub IsOurs : Map → Dates → Map → Type 0
+IsOurs card dates m = (get m journal_path ≡ None) ⊎ ((p : PlanValue) × (steps : ℕ) × IsOfCard card dates p × IsPlan p × IsAfter (record { plan = p; card = card }) m (suc steps))

@@ -4,19 +4,22 @@
 ghost use Rattle.std.specs.Prelude.{◌≡◌, ◌≢◌, ℕ, List, ◌∷◌, ◌++◌, ◌^◌, ◌<◌, ◌≤◌, suc, Bool, true, length};
 ghost use Rattle.bay_core.specs.declared.event.Event.{Event};
 ghost use Rattle.bay_core.specs.declared.event.Event.TheVariants.{Say};
-ghost use Rattle.bay_core.specs.Map.{Map};
+ghost use Rattle.bay_core.specs.Map.{Map, Dates};
 ghost use Rattle.bay_core.specs.Left.{Left};
 ghost use Rattle.bay_core.specs.Paths.{IsScratch};
+ghost use Rattle.bay_core.specs.Replay.{Device, Drive};
+ghost use Rattle.bay_core.specs.Went.{AllOn};
 ghost use Rattle.crash_law.specs.Protocol.{State, IsIn, Announced};
-ghost use Rattle.crash_law.specs.Law.{CrashLaw};
+ghost use Rattle.crash_law.specs.Law.{CrashLaw, Stays};
+ghost use Rattle.crash_law.specs.Lines.{AllLines};
 ghost use Rattle.copy_plan.specs.declared.file.PlannedFile.{PlannedFile};
 ghost use Rattle.copy_plan.specs.Plan.{PlanValue, IsPlan, list_of};
 ghost use Rattle.offload_law.specs.Clear.{clear_text, is_called_sealed, sealed_drives, CountsSealed};
 ghost use Rattle.offload_law.specs.Lines.{announces, begun_text, done_text, sealed_text};
-ghost use Rattle.offload_law.specs.Stages.{Offload, Stage, IsAt, IsAfter, KeepsRest, progress};
+ghost use Rattle.offload_law.specs.Stages.{Offload, Stage, IsAt, IsAfter, IsOurs, KeepsRest, progress};
 ghost use Rattle.offload_law.specs.Steps.{offload};
 ghost use Rattle.offload_law.specs.InPlace.{seal_in_place};
-ghost use Rattle.offload_law.specs.Runs.{LeftByRuns};
+ghost use Rattle.offload_law.specs.Runs.{LeftByRuns, LeftByRunsOn};
 
 /// Wherever a run that keeps to the steps stops, within a write too, the drive is left with a prefix of the offload's
 /// steps that holds every step announced for it, and at most one more.
@@ -52,10 +55,26 @@ pub fn called_clear()
         copies ≤ sealed_drives p L drives }
 {}
 
+/// Calls on other devices, with lines that announce nothing for the drive, leave the drive as it was, and what is
+/// announced for it.
+pub fn others_keep()
+    ensures { (o : Offload) (start : Map) (s : Stage) (d : ℕ) (before since : List Event) →
+        AllOn (λ y. y ≢ Drive d) since → AllLines (λ line. announces d o.plan line ≡ 0) since →
+        Stays (offload d o start) d start s before (before ++ since) }
+{}
+
 /// Any number of runs, each stopped at some moment, leave a prefix of the steps, and none takes one back.
 pub fn after_runs()
     ensures { (o : Offload) → IsPlan o.plan → (base m : Map) (s : Stage) → IsAt o base s → LeftByRuns o base m →
         (steps : ℕ) × IsAfter o m steps × KeepsRest o.plan m base steps × (progress o.plan s ≤ steps) }
+{}
+
+/// Whatever plans of the card its runs have, a drive that was ours stays ours. Once it has a journal the plan stays,
+/// and no step is taken back.
+pub fn ours_after_runs()
+    ensures ours { (card : Map) (dates : Dates) (base m : Map) → IsOurs card dates base → LeftByRunsOn card dates base m → IsOurs card dates m }
+    ensures kept { (card : Map) (dates : Dates) (base m : Map) → LeftByRunsOn card dates base m → (p : PlanValue) → IsPlan p → (k : ℕ) → IsAfter (record { plan = p; card = card }) base (suc k) →
+        (steps : ℕ) × IsAfter (record { plan = p; card = card }) m steps × (suc k ≤ steps) }
 {}
 
 /// A map is after one number of steps at most.

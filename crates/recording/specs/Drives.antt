@@ -171,16 +171,15 @@ pub record TakesTurn (d : ℕ) (given : Option Gate) (path : List ℕ) (rec : Re
   pub dropped : given ≡ None → live ≡ false
   pub idle : given ≡ None → new ≡ old
 
--- what is known of drive k while a file is recorded on the first n drives in turn: it has the file if its turn is over and it lives, and is ready for it before
-pub record Turn (D : Copying) (k : ℕ) (recs : List Rec) (path : List ℕ) (rec : Rec) (n i : ℕ) (gates : List (Option Gate)) (L : List Event) : Type 0 where
+-- drive k keeps to its steps, and where it has a gate, it is ready for the file
+pub record Awaits (D : Copying) (k : ℕ) (recs : List Rec) (path : List ℕ) (rec : Rec) (gates : List (Option Gate)) (L : List Event) : Type 0 where
   pub keeps : Keeps D k L
-  pub done : k < n → k < i → is_some (slice_index_or gates k None) ≡ true → Recorded D k L (recs ++ rec ∷ [])
-  pub todo : k < n → i ≤ k → (gate : Gate) → slice_index_or gates k None ≡ Some gate → Ready D k L recs gate.at path rec
+  pub ready : (gate : Gate) → slice_index_or gates k None ≡ Some gate → Ready D k L recs gate.at path rec
 
 -- A file was recorded on each drive with a gate in turn. Each offload that was ready has it recorded and announced where its drive still
 -- lives, and keeps to its steps in any case.
 pub record RecordsAll (n : ℕ) (path : List ℕ) (rec : Rec) (count : ℕ) (gates_old gates : List (Option Gate)) (ok : Bool) (old new : World) : Type 0 where
   pub keeps : (k : ℕ) → k < 2 ^ 64 → (D : Copying) → IsCopying D → count ≡ length D.work.plan.files → (recs : List Rec) (before all : List Event) → old.events ≡ Some before → new.events ≡ Some all →
-      Turn D k recs path rec n 0 gates_old before → Keeps D k all
+      Awaits D k recs path rec gates_old before → Keeps D k all
   pub done : ok ≡ true → (k : ℕ) → k < 2 ^ 64 → (D : Copying) → IsCopying D → count ≡ length D.work.plan.files → (recs : List Rec) (before all : List Event) → old.events ≡ Some before → new.events ≡ Some all →
-      Turn D k recs path rec n 0 gates_old before → k < n → is_some (slice_index_or gates k None) ≡ true → Recorded D k all (recs ++ rec ∷ [])
+      Awaits D k recs path rec gates_old before → k < n → is_some (slice_index_or gates k None) ≡ true → Recorded D k all (recs ++ rec ∷ [])

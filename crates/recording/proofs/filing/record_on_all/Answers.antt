@@ -7,8 +7,8 @@ use Rattle.bay_core.proofs.Runs.{went_none, went_such}
 use Rattle.crash_law.proofs.Lines.{went_lines_then, no_lines}
 use Rattle.drive_journal.specs.declared.record.Gate.{Gate}
 use Rattle.drive_journal.specs.declared.record.Rec.{Rec}
-use Rattle.recording.specs.Drives.{Turn, TakesTurn, MovesOn, IsDropped, IsDoneLine}
-use Rattle.recording.proofs.All.{turned, turned_keeps, went_among, not_ok, same_events, put_there, put_other, dropped_now, dropped_before}
+use Rattle.recording.specs.Drives.{TakesTurn, MovesOn, IsDropped, IsDoneLine}
+use Rattle.recording.proofs.All.{Turn, turned, turned_keeps, first_turn, went_among, not_ok, same_events, put_there, put_other, dropped_now, dropped_before}
 use Rattle.recording.proofs.filing.record_on_all.Goals as goal
 
 -- the turn of the gate that was taken
@@ -22,7 +22,7 @@ loop-d-init g c = record {
   dropped = λ k low. absurd (omega (arith, low));
   later = λ k low. refl;
   turn = λ k low D ok files recs before now was is h.
-      subst (λ (L : List Event). Turn D k recs c.args.path.now c.args.rec.now (length c.args.gates.now) 0 c.args.gates.now L) (same_events (sym was ∙ is)) h;
+      subst (λ (L : List Event). Turn D k recs c.args.path.now c.args.rec.now (length c.args.gates.now) 0 c.args.gates.now L) (same_events (sym was ∙ is)) (first_turn D k recs c.args.path.now c.args.rec.now (length c.args.gates.now) c.args.gates.now before h);
 }
 
 pub returns-in_err-gates-clause-went : goal.returns-in_err-gates-clause-went

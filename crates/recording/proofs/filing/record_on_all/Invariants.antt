@@ -3,7 +3,8 @@ use Rattle.bay_core.specs.declared.event.Event.{Event}
 use Rattle.bay_core.specs.Went.{Went}
 use Rattle.crash_law.specs.Lines.{AllLines}
 use Rattle.drive_journal.specs.declared.record.Rec.{Rec}
-use Rattle.recording.specs.Drives.{Copying, IsCopying, Turn, MovesOn, IsDropped, IsDoneLine, BelowOrOutput}
+use Rattle.recording.specs.Drives.{Copying, IsCopying, Awaits, MovesOn, IsDropped, IsDoneLine, BelowOrOutput}
+use Rattle.recording.proofs.All.{Turn}
 use Rattle.recording.proofs.filing.record_on_all.Given as goal
 
 abbrev pub invariant-loop-d : goal.invariant-loop-d
@@ -15,6 +16,6 @@ invariant-loop-d g l = record {
   turn :
       (k : ℕ) → k < 2 ^ 64 → (D : Copying) → IsCopying D → l.count ≡ length D.work.plan.files → (recs : List Rec) →
       (before now : List Event) → (g.B.Bay.world l.fn.bay).events ≡ Some before → (g.B.Bay.world l.bay).events ≡ Some now →
-      Turn D k recs l.path l.rec (length l.fn.gates) 0 l.fn.gates before →
+      Awaits D k recs l.path l.rec l.fn.gates before →
       Turn D k recs l.path l.rec (length l.fn.gates) l.d l.gates now;
 }

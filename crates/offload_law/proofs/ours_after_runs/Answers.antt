@@ -1,0 +1,8 @@
+use Rattle.offload_law.proofs.Runs.{ours_stays, steps_stay}
+use Rattle.offload_law.proofs.ours_after_runs.Goals as goal
+
+pub returns-clause-ours : goal.returns-clause-ours
+returns-clause-ours c = ours_stays
+
+pub returns-clause-kept : goal.returns-clause-kept
+returns-clause-kept c = steps_stay
