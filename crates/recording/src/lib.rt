@@ -10,6 +10,8 @@ mod ending;
 mod filing;
 mod lines;
 #[cfg(test)]
+mod tests;
+#[cfg(test)]
 mod worked_tests;
 mod writing;
 
