@@ -25,55 +25,56 @@ written_new : (bytes : List ℕ) → overwritten [] 0 bytes ≡ bytes
 written_new bytes = ap (λ (l : List ℕ). bytes ++ l) (drop_all (0 + length bytes) [] (omega arith)) ∙ append-nil bytes
 
 module _ (d : ℕ) (to bytes : List ℕ) (differ : to ≢ new_path) (R : Map) (absent : get R new_path ≡ None) where
-  abbrev R1 : Map
-  R1 = changed R (Write d new_path 0 bytes true)
+  -- what is read once the bytes are written, and once they have their name
+  abbrev written : Map
+  written = changed R (Write d new_path 0 bytes true)
 
-  abbrev R2 : Map
-  R2 = changed R1 (Rename d new_path to true)
+  abbrev named : Map
+  named = changed written (Rename d new_path to true)
 
   content_none : content R new_path ≡ []
   content_none = ap (λ o. unwrap_or o []) absent
 
-  R1_is : R1 ≡ insert R new_path bytes
-  R1_is = ap (insert R new_path) (ap (λ c. overwritten c 0 bytes) content_none ∙ written_new bytes)
+  written_is : written ≡ insert R new_path bytes
+  written_is = ap (insert R new_path) (ap (λ c. overwritten c 0 bytes) content_none ∙ written_new bytes)
 
-  whole_R1 : IsWhole to bytes R R1
-  whole_R1 = subst (IsWhole to bytes R) (sym R1_is) (record { at = inl (insert_other R new_path bytes to differ); others = λ q scratch other. insert_other R new_path bytes q scratch })
+  whole_written : IsWhole to bytes R written
+  whole_written = subst (IsWhole to bytes R) (sym written_is) (record { at = inl (insert_other R new_path bytes to differ); others = λ q scratch other. insert_other R new_path bytes q scratch })
 
-  R1_scratch : get R1 new_path ≡ Some bytes
-  R1_scratch = ap (λ m. get m new_path) R1_is ∙ insert_here R new_path bytes
+  written_scratch : get written new_path ≡ Some bytes
+  written_scratch = ap (λ m. get m new_path) written_is ∙ insert_here R new_path bytes
 
-  R2_is : R2 ≡ insert (remove R1 new_path) to bytes
-  R2_is = moved_file R1 new_path to bytes R1_scratch
+  named_is : named ≡ insert (remove written new_path) to bytes
+  named_is = moved_file written new_path to bytes written_scratch
 
-  R2_others : (q : List ℕ) → q ≢ new_path → q ≢ to → get R2 q ≡ get R q
-  R2_others q scratch other =
-      ap (λ m. get m q) R2_is ∙ insert_other _ to bytes q other ∙ remove_other R1 new_path q scratch
-      ∙ ap (λ m. get m q) R1_is ∙ insert_other R new_path bytes q scratch
+  named_others : (q : List ℕ) → q ≢ new_path → q ≢ to → get named q ≡ get R q
+  named_others q scratch other =
+      ap (λ m. get m q) named_is ∙ insert_other _ to bytes q other ∙ remove_other written new_path q scratch
+      ∙ ap (λ m. get m q) written_is ∙ insert_other R new_path bytes q scratch
 
-  R2_file : get R2 to ≡ Some bytes
-  R2_file = ap (λ m. get m to) R2_is ∙ insert_here _ to bytes
+  named_file : get named to ≡ Some bytes
+  named_file = ap (λ m. get m to) named_is ∙ insert_here _ to bytes
 
-  whole_R2 : IsWhole to bytes R R2
-  whole_R2 = record { at = inr R2_file; others = R2_others }
+  whole_named : IsWhole to bytes R named
+  whole_named = record { at = inr named_file; others = named_others }
 
-  there_R2 : IsThere to bytes R R2
-  there_R2 = record {
-    file = R2_file;
-    no_scratch = ap (λ m. get m new_path) R2_is ∙ insert_other _ to bytes new_path (λ e. differ (sym e)) ∙ remove_here R1 new_path;
-    others = R2_others;
+  there_named : IsThere to bytes R named
+  there_named = record {
+    file = named_file;
+    no_scratch = ap (λ m. get m new_path) named_is ∙ insert_other _ to bytes new_path (λ e. differ (sym e)) ∙ remove_here written new_path;
+    others = named_others;
   }
 
   -- the file under both names
-  whole_both : IsWhole to bytes R (copied R1 new_path to)
+  whole_both : IsWhole to bytes R (copied written new_path to)
   whole_both = record {
-    at = inr (copied_here R1 new_path to bytes R1_scratch);
-    others = λ q scratch other. copied_other R1 new_path to q other ∙ ap (λ m. get m q) R1_is ∙ insert_other R new_path bytes q scratch;
+    at = inr (copied_here written new_path to bytes written_scratch);
+    others = λ q scratch other. copied_other written new_path to q other ∙ ap (λ m. get m q) written_is ∙ insert_other R new_path bytes q scratch;
   }
 
-  torn_rename : (ok : Bool) (I : Map) → LeftAfter (Rename d new_path to ok) R1 (λ J. J ≡ R1) I → IsWhole to bytes R I
-  torn_rename ok I (J, is, inl same) = subst (IsWhole to bytes R) (sym (same ∙ is)) whole_R1
-  torn_rename ok I (J, is, inr (inl done)) = subst (IsWhole to bytes R) (sym (done ∙ ap (λ m. moved m new_path to) is)) whole_R2
+  torn_rename : (ok : Bool) (I : Map) → LeftAfter (Rename d new_path to ok) written (λ J. J ≡ written) I → IsWhole to bytes R I
+  torn_rename ok I (J, is, inl same) = subst (IsWhole to bytes R) (sym (same ∙ is)) whole_written
+  torn_rename ok I (J, is, inr (inl done)) = subst (IsWhole to bytes R) (sym (done ∙ ap (λ m. moved m new_path to) is)) whole_named
   torn_rename ok I (J, is, inr (inr both)) = subst (IsWhole to bytes R) (sym (both ∙ ap (λ m. copied m new_path to) is)) whole_both
 
   -- from what was left before, of which what is read is one
@@ -96,33 +97,33 @@ module _ (d : ℕ) (to bytes : List ℕ) (differ : to ≢ new_path) (R : Map) (a
       },
     )
 
-    abbrev S1 : Map → Type 0
-    S1 = LeftAfter (Write d new_path 0 bytes true) R S
+    abbrev AfterWrite : Map → Type 0
+    AfterWrite = LeftAfter (Write d new_path 0 bytes true) R S
 
-    abbrev S3 : Map → Type 0
-    S3 = LeftAfter (Rename d new_path to true) R1 (λ J. J ≡ R1)
+    abbrev AfterRename : Map → Type 0
+    AfterRename = LeftAfter (Rename d new_path to true) written (λ J. J ≡ written)
 
-    way4 : (P : List Event) (I : Map) → Goes (sync_call d ∷ []) P → LeftBy P R2 S3 I → IsWhole to bytes R I
-    way4 P I (inl none) left = torn_rename true I (subst (λ K. LeftBy K R2 S3 I) none left)
-    way4 P I (inr (inl failed)) left = torn_rename true I (subst (λ K. LeftBy K R2 S3 I) failed left)
-    way4 P I (inr (inr (rest, is, none))) left =
-        let at_rest : I ≡ R2 = subst (λ K. LeftBy K R2 (λ J. J ≡ R2) I) none (subst (λ K. LeftBy K R2 S3 I) is left) in
-        subst (IsWhole to bytes R) (sym at_rest) whole_R2
+    from_last_sync : (P : List Event) (I : Map) → Goes (sync_call d ∷ []) P → LeftBy P named AfterRename I → IsWhole to bytes R I
+    from_last_sync P I (inl none) left = torn_rename true I (subst (λ K. LeftBy K named AfterRename I) none left)
+    from_last_sync P I (inr (inl failed)) left = torn_rename true I (subst (λ K. LeftBy K named AfterRename I) failed left)
+    from_last_sync P I (inr (inr (rest, is, none))) left =
+        let at_rest : I ≡ named = subst (λ K. LeftBy K named (λ J. J ≡ named) I) none (subst (λ K. LeftBy K named AfterRename I) is left) in
+        subst (IsWhole to bytes R) (sym at_rest) whole_named
 
-    way3 : (P : List Event) (I : Map) → Goes (rename_call d new_path to ∷ sync_call d ∷ []) P → LeftBy P R1 (λ J. J ≡ R1) I → IsWhole to bytes R I
-    way3 P I (inl none) left = subst (IsWhole to bytes R) (sym (subst (λ K. LeftBy K R1 (λ J. J ≡ R1) I) none left)) whole_R1
-    way3 P I (inr (inl failed)) left = torn_rename false I (subst (λ K. LeftBy K R1 (λ J. J ≡ R1) I) failed left)
-    way3 P I (inr (inr (rest, is, goes))) left = way4 rest I goes (subst (λ K. LeftBy K R1 (λ J. J ≡ R1) I) is left)
+    from_rename : (P : List Event) (I : Map) → Goes (rename_call d new_path to ∷ sync_call d ∷ []) P → LeftBy P written (λ J. J ≡ written) I → IsWhole to bytes R I
+    from_rename P I (inl none) left = subst (IsWhole to bytes R) (sym (subst (λ K. LeftBy K written (λ J. J ≡ written) I) none left)) whole_written
+    from_rename P I (inr (inl failed)) left = torn_rename false I (subst (λ K. LeftBy K written (λ J. J ≡ written) I) failed left)
+    from_rename P I (inr (inr (rest, is, goes))) left = from_last_sync rest I goes (subst (λ K. LeftBy K written (λ J. J ≡ written) I) is left)
 
-    way2 : (P : List Event) (I : Map) → Goes (sync_call d ∷ rename_call d new_path to ∷ sync_call d ∷ []) P → LeftBy P R1 S1 I → Way I
-    way2 P I (inl none) left = torn_write true I (subst (λ K. LeftBy K R1 S1 I) none left)
-    way2 P I (inr (inl failed)) left = torn_write true I (subst (λ K. LeftBy K R1 S1 I) failed left)
-    way2 P I (inr (inr (rest, is, goes))) left = (R, s, way3 rest I goes (subst (λ K. LeftBy K R1 S1 I) is left))
+    from_first_sync : (P : List Event) (I : Map) → Goes (sync_call d ∷ rename_call d new_path to ∷ sync_call d ∷ []) P → LeftBy P written AfterWrite I → Way I
+    from_first_sync P I (inl none) left = torn_write true I (subst (λ K. LeftBy K written AfterWrite I) none left)
+    from_first_sync P I (inr (inl failed)) left = torn_write true I (subst (λ K. LeftBy K written AfterWrite I) failed left)
+    from_first_sync P I (inr (inr (rest, is, goes))) left = (R, s, from_rename rest I goes (subst (λ K. LeftBy K written AfterWrite I) is left))
 
     pub way : (P : List Event) (I : Map) → Goes (publish_calls d to bytes) P → LeftBy P R S I → Way I
     way P I (inl none) left = (I, subst (λ K. LeftBy K R S I) none left, same I I refl)
     way P I (inr (inl failed)) left = torn_write false I (subst (λ K. LeftBy K R S I) failed left)
-    way P I (inr (inr (rest, is, goes))) left = way2 rest I goes (subst (λ K. LeftBy K R S I) is left)
+    way P I (inr (inr (rest, is, goes))) left = from_first_sync rest I goes (subst (λ K. LeftBy K R S I) is left)
 
 pub publish_leaves : (d : ℕ) (to bytes : List ℕ) → to ≢ new_path → (ok : Bool) (old new : World) → Tried d (publish_calls d to bytes) ok old new → Leaves d NoScratch (IsWhole to bytes) old new
 publish_leaves d to bytes differ ok old new t = record {
@@ -141,10 +142,10 @@ publish_rests d to bytes differ ok old new t = record {
       let R = reads m before d in
       let four : s.since ≡ map (λ c. c true) (publish_calls d to bytes) = all_ran (publish_calls d to bytes) s.since (subst (λ b. Ran (publish_calls d to bytes) b s.since) y s.such) in
       let mine : calls_on d s.since ≡ map (λ c. c true) (publish_calls d to bytes) = calls_all d s.since s.on ∙ four in
-      let now_is : reads m all d ≡ R2 d to bytes differ R absent = ap (λ K. reads m K d) s.is ∙ reads-append m before s.since d ∙ ap (replayed R) mine in (
+      let now_is : reads m all d ≡ named d to bytes differ R absent = ap (λ K. reads m K d) s.is ∙ reads-append m before s.since d ∙ ap (replayed R) mine in (
         λ I left.
-            let at_rest : I ≡ R2 d to bytes differ R absent = subst (λ K. LeftBy K R (Left m before d) I) mine (left_any m before s.since d I (subst (λ K. Left m K d I) s.is left)) in
+            let at_rest : I ≡ named d to bytes differ R absent = subst (λ K. LeftBy K R (Left m before d) I) mine (left_any m before s.since d I (subst (λ K. Left m K d I) s.is left)) in
             at_rest ∙ sym now_is,
-        subst (IsThere to bytes R) (sym now_is) (there_R2 d to bytes differ R absent),
+        subst (IsThere to bytes R) (sym now_is) (there_named d to bytes differ R absent),
       );
 }

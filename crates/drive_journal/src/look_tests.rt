@@ -123,7 +123,7 @@ fn a_look_finds_how_far_a_drive_has_come(rt: HostRuntime) -> Result<(), Fail> {
         (Some(&numbered), LIST, refused(59)),
         (Some(&sized), LIST, refused(59)),
         (Some(&dated), LIST, refused(59)),
-        (Some(b"XXXXXXXX"), LIST, refused(0)),
+        (Some(b"MHLPLAN3"), LIST, refused(0)),
     ];
     for (journal, other, wanted) in rows {
         assert_eq!(rt; look_at(alloc, journal, other)?, wanted);

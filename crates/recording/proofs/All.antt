@@ -1,5 +1,5 @@
 -- One drive's turn, seen from each drive.
-use Rattle.std.proofs.Common.{◌≡◌, ◌≢◌, ◌⊎◌, inl, inr, ℕ, suc, ◌+◌, ◌^◌, ◌<◌, ◌≤◌, Bool, true, false, List, [], ◌∷◌, ◌++◌, length, get_or, slice_index_or, Option, Some, None, refl, sym, ap, ◌∙◌, subst, arith, set, length-set, get_or-set_same, get_or-set_other}
+use Rattle.std.proofs.Common.{◌≡◌, ◌≢◌, ◌⊎◌, inl, inr, ℕ, suc, ◌+◌, ◌^◌, ◌<◌, ◌≤◌, Bool, true, List, [], ◌∷◌, ◌++◌, length, get_or, slice_index_or, Option, Some, None, refl, sym, ap, ◌∙◌, subst, arith, set, length-set, get_or-set_same, get_or-set_other}
 use Rattle.std.specs.Prelude.{is_some, Result, IsErrAnd, is_ok}
 use Rattle.std.specs.FinMap.{get}
 use Rattle.std.proofs.lemmas.Bool.{cases_eq, false≢true}
@@ -24,7 +24,7 @@ use Rattle.offload_law.specs.Lines.{announces, done_text}
 use Rattle.offload_law.specs.Stages.{Begun}
 use Rattle.offload_law.specs.Steps.{offload}
 use Rattle.offload_law.proofs.Said.{done_elsewhere}
-use Rattle.recording.specs.Drives.{Copying, IsCopying, Keeps, Recorded, Ready, RecordsAloud, TakesTurn, Awaits, IsDropped, done_line, IsDoneLine, BelowOrOutput}
+use Rattle.recording.specs.Drives.{Copying, IsCopying, Keeps, Recorded, Ready, TakesTurn, Awaits, IsDropped, done_line, IsDoneLine, BelowOrOutput}
 
 -- what is known of drive k while a file is recorded on the first n drives in turn: it has the file if its turn is over and it lives, and is ready for it before
 pub record Turn (D : Copying) (k : ℕ) (recs : List Rec) (path : List ℕ) (rec : Rec) (n i : ℕ) (gates : List (Option Gate)) (L : List Event) : Type 0 where

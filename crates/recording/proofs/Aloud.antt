@@ -1,6 +1,6 @@
 -- What the line of a file does to an offload.
-use Rattle.std.proofs.Common.{◌≡◌, ℕ, suc, ◌≤◌, max, Bool, true, false, List, [], ◌∷◌, ◌++◌, length, refl, sym, ap, ◌∙◌, subst, arith}
-use Rattle.std.specs.Prelude.{Some, Option, Result, IsErrAnd}
+use Rattle.std.proofs.Common.{◌≡◌, ℕ, suc, Bool, true, false, List, [], ◌∷◌, ◌++◌, length, refl, sym, ap, ◌∙◌, subst, arith}
+use Rattle.std.specs.Prelude.{Option, Result, IsErrAnd}
 use Rattle.std.proofs.lemmas.Bool.{false≢true}
 use Rattle.std.proofs.lemmas.List.{length_push}
 use Rattle.std.proofs.lemmas.Result.{err_from_is_err_and}
@@ -9,15 +9,14 @@ use Rattle.bay_core.specs.declared.failed.Failed.{Failed}
 use Rattle.bay_core.specs.Replay.{Output}
 use Rattle.bay_core.specs.World.{World}
 use Rattle.bay_core.specs.Went.{Ran, Called, say_call}
-use Rattle.crash_law.specs.Protocol.{Settled, reached}
+use Rattle.crash_law.specs.Protocol.{Settled}
 use Rattle.crash_law.proofs.Worlds.{said_in, said_told}
-use Rattle.copy_plan.specs.declared.file.PlannedFile.{PlannedFile}
 use Rattle.drive_journal.specs.declared.record.Rec.{Rec}
 use Rattle.offload_law.specs.Lines.{announces, done_text}
 use Rattle.offload_law.specs.Stages.{Begun, progress}
 use Rattle.offload_law.specs.Steps.{offload}
 use Rattle.offload_law.proofs.Said.{done_said}
-use Rattle.recording.specs.Drives.{Copying, IsCopying, Keeps, ToldOf, Recorded, Ready, Records, RecordsAloud, done_line, is_live}
+use Rattle.recording.specs.Drives.{Copying, IsCopying, Ready, Records, RecordsAloud, done_line, is_live}
 
 -- the line of a file announces the journal and the records up to it
 line_steps : (D : Copying) → IsCopying D → (d : ℕ) (before : List Event) (recs : List Rec) (gate : ℕ) (path : List ℕ) (rec : Rec) (line : List ℕ) → Ready D d before recs gate path rec → line ≡ done_line D d recs path →

@@ -1,9 +1,8 @@
 -- Where the calls of each step lead a drive.
-use Rattle.std.proofs.Common.{◌≡◌, ◌≢◌, ◌⊎◌, inl, inr, ℕ, suc, ◌+◌, ◌<◌, ◌≤◌, true, false, List, [], ◌∷◌, ◌++◌, length, drop, Option, Some, None, refl, sym, ap, ◌∙◌, subst, arith, append-nil, length-append, zero-le}
+use Rattle.std.proofs.Common.{◌≡◌, ◌≢◌, ◌⊎◌, inl, inr, ℕ, suc, ◌+◌, ◌≤◌, true, List, [], ◌∷◌, ◌++◌, length, drop, Option, Some, None, refl, sym, ap, ◌∙◌, subst, arith, append-nil, length-append, zero-le}
 use Rattle.std.specs.Prelude.{unwrap_or, is_some}
 use Rattle.std.specs.FinMap.{get, insert}
 use Rattle.std.proofs.lemmas.List.{drop_all}
-use Rattle.bay_core.specs.declared.event.Event.{Event}
 use Rattle.bay_core.specs.declared.event.Event.TheVariants.{Write, Sync, Rename}
 use Rattle.bay_core.specs.Map.{Map, content, overwritten}
 use Rattle.bay_core.specs.Paths.{journal_path, new_path, part_path}
@@ -18,7 +17,7 @@ use Rattle.copy_plan.specs.Plan.{IsPlan, list_of}
 use Rattle.drive_journal.specs.declared.record.Rec.{Rec}
 use Rattle.drive_journal.specs.Calls.{publish_calls, place_calls, open_calls, tidy_calls}
 use Rattle.drive_journal.specs.Journal.{journal_code}
-use Rattle.drive_journal.specs.Record.{record_code, closed_record}
+use Rattle.drive_journal.specs.Record.{closed_record}
 use Rattle.drive_journal.proofs.Entries.{records_none}
 use Rattle.drive_journal.proofs.Placing.{placed}
 use Rattle.drive_journal.proofs.Records.{length-record}

@@ -9,8 +9,8 @@ use Rattle.bay_core.specs.Replay.{Drive, reads, changed}
 use Rattle.bay_core.specs.World.{World}
 use Rattle.bay_core.specs.Went.{AllOn, Only, Ran, Tried, write_call, sync_call}
 use Rattle.bay_core.proofs.Maps.{insert_here}
-use Rattle.bay_core.proofs.Runs.{Told, told_since, all_ran}
-use Rattle.crash_law.specs.Protocol.{State, Settled, Preparing, Committing, reached, flushed, MayPrepare, prepares, flushes, passes, Announced}
+use Rattle.bay_core.proofs.Runs.{told_since, all_ran}
+use Rattle.crash_law.specs.Protocol.{State, Settled, Preparing, Committing, reached, flushed, MayPrepare, prepares, flushes, passes}
 use Rattle.crash_law.proofs.Calls.{in-append, told-append, told_calls, reads_calls}
 use Rattle.drive_journal.specs.declared.record.Rec.{Rec}
 use Rattle.offload_law.specs.Stages.{Stage, Begun, progress}
