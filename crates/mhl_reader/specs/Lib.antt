@@ -1,2 +1,5 @@
-pub mod Taking
+pub mod Leaves
+pub mod Grammar
+pub mod Faults
 pub mod Reading
+pub mod Code

@@ -1,19 +1,47 @@
 //! Why a list could not be read.
-
 ghost use Rattle.std.specs.Prelude.{◌≡◌};
 ghost use Rattle.mhl_reader.specs.declared.error.ReadError.TheVariants.{Memory};
-ghost use Rattle.mhl_reader.specs.Reading.{from_path_error};
 
-use path_text::PathError;
 use std::alloc::{AllocError, AllocFailed};
 use thiserror::Error;
 
-/// Why a list could not be read.
-#[derive(Debug, Drop, PartialEq, Eq, Error)]
+/// Why bytes are no list. A place is counted in bytes from the start, a byte order mark included; which fault is the
+/// first, and what its place is, is the table of docs/FORMATS.md, "Reading a list".
+#[derive(Clone, Copy, Debug, PartialEq, Eq, Error)]
 pub enum ReadError {
-    /// The bytes are not the canonical text of a list. Other layouts are not read yet.
-    #[error("not the canonical text of a list")]
-    NotYet,
+    /// Bytes that are no UTF-8.
+    #[error("no UTF-8 at {at}")]
+    NotUtf8 { at: u64 },
+    /// A character that XML does not allow, markup that is not of its rule, or markup or text where it may not stand.
+    #[error("malformed at {at}")]
+    Malformed { at: u64 },
+    /// `<!DOCTYPE`.
+    #[error("a DOCTYPE at {at}")]
+    Doctype { at: u64 },
+    /// `<![CDATA[`.
+    #[error("a CDATA section at {at}")]
+    Cdata { at: u64 },
+    /// The `hashlist` has no `version` that begins with `1.`.
+    #[error("not of version 1")]
+    Version,
+    /// A `hash` without `file`.
+    #[error("a hash without a file at {at}")]
+    NoFile { at: u64 },
+    /// A `file` whose path an earlier entry has.
+    #[error("a path for the second time at {at}")]
+    Twice { at: u64 },
+    /// A `file` that is no valid path.
+    #[error("no path at {at}")]
+    BadPath { at: u64 },
+    /// A `size` that is no number of bytes.
+    #[error("no size at {at}")]
+    BadSize { at: u64 },
+    /// A digest that is not of its digits.
+    #[error("no digest at {at}")]
+    BadDigest { at: u64 },
+    /// More than 262,144 entries.
+    #[error("too many entries at {at}")]
+    TooMany { at: u64 },
     #[error("out of memory")]
     Memory,
 }
@@ -31,16 +59,5 @@ impl<T: Drop> From<AllocFailed<T>> for ReadError {
 
     fn from(_e: AllocFailed<T>) -> ReadError {
         ReadError::Memory
-    }
-}
-
-impl From<PathError> for ReadError {
-    ghost from_gives = { λ refused e. e ≡ from_path_error refused };
-
-    fn from(refused: PathError) -> ReadError {
-        match refused {
-            PathError::Memory => ReadError::Memory,
-            _ => ReadError::NotYet,
-        }
     }
 }

@@ -1,14 +1,17 @@
-//! The reader of the one canonical text of a hash list.
+//! The reader of hash lists: what a document means, or its first fault (docs/FORMATS.md, "Reading a list").
 #![tactic(auto)]
 
-mod distinct;
+mod entries;
 mod error;
-mod leaves;
+mod found;
+mod laws;
+mod reader;
 mod reading;
-mod taking;
+mod values;
 
 pub use error::ReadError;
-pub use reading::{one_list, read_list};
+pub use laws::reading_is_exact;
+pub use reading::read_list;
 
 #[cfg(test)]
 mod tests;

@@ -1,13 +1,27 @@
 -- The text of each line that the station says, without its line feed: docs/FORMATS.md, "Lines".
-use Rattle.std.specs.Prelude.{ℕ, ◌≤◌, ◌++◌, List, [], ◌∷◌, length, codes, decimal}
+use Rattle.std.specs.Prelude.{ℕ, ◌≤◌, ◌-◌, ◌++◌, List, [], ◌∷◌, length, replicate, Option, Some, None, IfSome, option_map, codes, decimal}
 use Rattle.hex.specs.Hex.{encode_lower}
+use Rattle.path_text.specs.Moment.{moment_text}
 use Rattle.report_text.specs.declared.line.Line.{Line}
-use Rattle.report_text.specs.declared.line.Line.TheVariants.{Missing, Unchecked, Unlisted, AlteredSize, AlteredMd5, AlteredSha1, AlteredXxh, Verdict, RefusedWords, FailedAttachDrive, FailedDrive, UnreadableAbsent, UnreadableToolarge, UnreadableNotyet, Memory}
+use Rattle.report_text.specs.declared.line.Line.TheVariants.{Missing, Unchecked, Unlisted, AlteredSize, AlteredMd5, AlteredSha1, AlteredXxh, Verdict, RefusedWords, FailedAttachDrive, FailedDrive, UnreadableAbsent, UnreadableToolarge, UnreadableVersion, Unreadable, Name, Username, Hostname, Tool, Startdate, Finishdate, Entry, Entries, Memory}
 
 -- the fields of a line, with one space (32) between each two
 abbrev pub fields : List ℕ → List (List ℕ) → List ℕ
 fields first [] = first
 fields first (field ∷ more) = fields (first ++ 32 ∷ field) more
+
+-- a text right in so many places, with spaces before it
+abbrev pub right : ℕ → List ℕ → List ℕ
+right places text = replicate (places - length text) 32 ++ text
+
+-- a text left in so many places, with spaces behind it
+abbrev pub left : ℕ → List ℕ → List ℕ
+left places text = text ++ replicate (places - length text) 32
+
+-- a text, or `-` for what is absent
+abbrev pub or_dash : Option (List ℕ) → List ℕ
+or_dash None = codes "-"
+or_dash (Some text) = text
 
 -- The text of each form: a path is last, numbers are decimal, digests are in lower case digits.
 abbrev pub missing_text : List ℕ → List ℕ
@@ -42,6 +56,30 @@ failed_attach_drive_text d = fields (codes "failed attach drive") (decimal d ∷
 abbrev pub unreadable_toolarge_text : ℕ → List ℕ
 unreadable_toolarge_text len = fields (codes "unreadable toolarge") (decimal len ∷ [])
 
+abbrev pub unreadable_text : List ℕ → ℕ → List ℕ
+unreadable_text what at = fields (codes "unreadable") (what ∷ decimal at ∷ [])
+
+-- The lines of a printed list. Of its creator: a word, and the text or the moment.
+abbrev pub note_text : List ℕ → Option (List ℕ) → List ℕ
+note_text word note = fields word (or_dash note ∷ [])
+
+abbrev pub date_text : List ℕ → Option ℕ → List ℕ
+date_text word moment = fields word (or_dash (option_map moment_text moment) ∷ [])
+
+-- of an entry: its size, its date and its three digests in columns, and its path
+abbrev pub entry_row : Option ℕ → Option ℕ → Option (List ℕ) → Option (List ℕ) → Option (List ℕ) → List ℕ → List ℕ
+entry_row size modified md5 sha1 xxh path =
+    fields (right 20 (or_dash (option_map decimal size)))
+    (left 20 (or_dash (option_map moment_text modified))
+    ∷ left 32 (or_dash (option_map encode_lower md5))
+    ∷ left 40 (or_dash (option_map encode_lower sha1))
+    ∷ left 16 (or_dash (option_map encode_lower xxh))
+    ∷ path ∷ [])
+
+-- of them all: their number
+abbrev pub entries_text : ℕ → List ℕ
+entries_text count = fields (codes "entries") (decimal count ∷ [])
+
 -- the text of a line
 abbrev pub line_text : Line → List ℕ
 line_text (Missing path) = missing_text path.now
@@ -57,7 +95,16 @@ line_text (FailedAttachDrive d) = failed_attach_drive_text d
 line_text FailedDrive = codes "failed drive"
 line_text UnreadableAbsent = codes "unreadable absent"
 line_text (UnreadableToolarge len) = unreadable_toolarge_text len
-line_text UnreadableNotyet = codes "unreadable notyet"
+line_text UnreadableVersion = codes "unreadable version"
+line_text (Unreadable what at) = unreadable_text what.now at
+line_text (Name note) = note_text (codes "name") (option_map (λ t. t.now) note)
+line_text (Username note) = note_text (codes "username") (option_map (λ t. t.now) note)
+line_text (Hostname note) = note_text (codes "hostname") (option_map (λ t. t.now) note)
+line_text (Tool note) = note_text (codes "tool") (option_map (λ t. t.now) note)
+line_text (Startdate moment) = date_text (codes "startdate") moment
+line_text (Finishdate moment) = date_text (codes "finishdate") moment
+line_text (Entry size modified md5 sha1 xxh path) = entry_row size modified md5 sha1 xxh path.now
+line_text (Entries count) = entries_text count
 line_text Memory = codes "memory"
 
 -- each text in the line has at most 1,024 bytes
@@ -70,4 +117,10 @@ IsShort (AlteredMd5 listed found path) = length path.now ≤ 1024
 IsShort (AlteredSha1 listed found path) = length path.now ≤ 1024
 IsShort (AlteredXxh listed found path) = length path.now ≤ 1024
 IsShort (Verdict word entries missing altered unchecked unlisted) = length word.now ≤ 1024
+IsShort (Unreadable what at) = length what.now ≤ 1024
+IsShort (Name note) = IfSome note (λ t. length t.now ≤ 1024)
+IsShort (Username note) = IfSome note (λ t. length t.now ≤ 1024)
+IsShort (Hostname note) = IfSome note (λ t. length t.now ≤ 1024)
+IsShort (Tool note) = IfSome note (λ t. length t.now ≤ 1024)
+IsShort (Entry size modified md5 sha1 xxh path) = length path.now ≤ 1024
 IsShort _ = Unit {0}

@@ -1,10 +1,11 @@
 ghost use Rattle.std.specs.Prelude.{◌≡◌, ◌+◌, ◌≤◌, ◌++◌, [], ◌∷◌, length, decimal};
 ghost use Rattle.hex.specs.Hex.{encode_lower};
 ghost use Rattle.report_text.specs.declared.line.Line.TheVariants.{Memory};
-ghost use Rattle.report_text.specs.Line.{fields, line_text, altered_size_text, IsShort};
+ghost use Rattle.report_text.specs.Line.{fields, line_text, altered_size_text, unreadable_text, IsShort};
 
 use crate::fields::{add, add_digest, add_number, begin};
-use path_text::Scratch;
+use crate::table::{add_date, add_digest_column, begin_size, date_line, note_line};
+use path_text::{Moment, Scratch};
 
 /// One line, by the fixed words of its form; the fields are the values of the form in its order.
 ///
@@ -37,8 +38,33 @@ pub enum Line<'a> {
     UnreadableAbsent,
     /// `unreadable toolarge LEN`.
     UnreadableToolarge(u64),
-    /// `unreadable notyet`: the list is not in the station's own layout.
-    UnreadableNotyet,
+    /// `unreadable version`: the version of the list does not begin with `1.`.
+    UnreadableVersion,
+    /// `unreadable WHAT AT`: the fault of the list, and its place.
+    Unreadable(&'a str, u64),
+    /// `name NAME`, of a printed list; in this and the next lines `-` stands for what is absent.
+    Name(Option<&'a str>),
+    /// `username USER`.
+    Username(Option<&'a str>),
+    /// `hostname HOST`.
+    Hostname(Option<&'a str>),
+    /// `tool TOOL`.
+    Tool(Option<&'a str>),
+    /// `startdate MOMENT`.
+    Startdate(Option<Moment>),
+    /// `finishdate MOMENT`.
+    Finishdate(Option<Moment>),
+    /// An entry of a printed list: its size, its modification date, its MD5, SHA-1 and XXH64, its path.
+    Entry(
+        Option<u64>,
+        Option<Moment>,
+        Option<[u8; 16]>,
+        Option<[u8; 20]>,
+        Option<[u8; 8]>,
+        &'a str,
+    ),
+    /// `entries E`: how many entries a printed list has.
+    Entries(u64),
     /// `memory`: memory was wanting.
     Memory,
 }
@@ -69,6 +95,17 @@ fn with_number(out: &mut Scratch, words: &[u8], number: u64)
 {
     begin(out, words);
     add_number(out, number);
+}
+
+// A line of the fault of a list and its place.
+fn unreadable(out: &mut Scratch, what: &str, at: u64)
+    requires { length what.now ≤ 1024 }
+    ensures text { out.new ≡ unreadable_text what.now at }
+    ensures len { length out.new ≤ 2048 }
+{
+    begin(out, b"unreadable");
+    add(out, what.as_bytes());
+    add_number(out, at);
 }
 
 fn altered_size(out: &mut Scratch, listed: u64, found: u64, path: &str)
@@ -142,7 +179,23 @@ pub fn line_into(line: &Line<'_>, out: &mut Scratch)
         Line::FailedDrive => begin(out, b"failed drive"),
         Line::UnreadableAbsent => begin(out, b"unreadable absent"),
         Line::UnreadableToolarge(len) => with_number(out, b"unreadable toolarge", *len),
-        Line::UnreadableNotyet => begin(out, b"unreadable notyet"),
+        Line::UnreadableVersion => begin(out, b"unreadable version"),
+        Line::Unreadable(what, at) => unreadable(out, what, *at),
+        Line::Name(note) => note_line(out, b"name", note),
+        Line::Username(note) => note_line(out, b"username", note),
+        Line::Hostname(note) => note_line(out, b"hostname", note),
+        Line::Tool(note) => note_line(out, b"tool", note),
+        Line::Startdate(moment) => date_line(out, b"startdate", moment),
+        Line::Finishdate(moment) => date_line(out, b"finishdate", moment),
+        Line::Entry(size, modified, md5, sha1, xxh, path) => {
+            begin_size(out, size);
+            add_date(out, modified);
+            add_digest_column(out, md5);
+            add_digest_column(out, sha1);
+            add_digest_column(out, xxh);
+            add(out, path.as_bytes());
+        }
+        Line::Entries(count) => with_number(out, b"entries", *count),
         Line::Memory => begin(out, b"memory"),
     }
 }
@@ -230,7 +283,19 @@ mod tests {
             &Line::UnreadableToolarge(536_870_913),
             "unreadable toolarge 536870913",
         );
-        says(&rt, &mut out, &Line::UnreadableNotyet, "unreadable notyet");
+        says(
+            &rt,
+            &mut out,
+            &Line::UnreadableVersion,
+            "unreadable version",
+        );
+        says(
+            &rt,
+            &mut out,
+            &Line::Unreadable("badpath", 30),
+            "unreadable badpath 30",
+        );
+        says(&rt, &mut out, &Line::Name(None), "name -");
         says(&rt, &mut out, &Line::Memory, "memory");
         assert_eq!(rt; memory_line(), b"memory".as_slice());
         Ok(())
@@ -239,6 +304,7 @@ mod tests {
     #[test]
     fn says_verdicts(rt: HostRuntime) -> Result<(), Fail> {
         let mut out = Scratch::new(rt.alloc())?;
+        says(&rt, &mut out, &Line::Name(None), "name -");
         says(
             &rt,
             &mut out,

@@ -8,7 +8,7 @@ use Rattle.bay_core.specs.Went.{Only, Called, Ran, MaySee, say_call}
 use Rattle.bay_core.proofs.Runs.{went_such, went_none, all_ran}
 use Rattle.station_cli.specs.Story.{End, LastLine, NoLine, Ended}
 
-seen_or_not : (line : List ℕ) (L : List Event) → Ran (say_call line ∷ []) false L → MaySee (Say line false) L
+pub seen_or_not : (line : List ℕ) (L : List Event) → Ran (say_call line ∷ []) false L → MaySee (Say line false) L
 unfolding Ran
 seen_or_not line L (inl none) = inl none
 seen_or_not line L (inr (inl one)) = inr one

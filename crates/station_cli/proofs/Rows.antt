@@ -1,6 +1,6 @@
 -- Which words are a command.
 use Rattle.std.proofs.Common.{◌≡◌, ◌≢◌, ◌<◌, arith, ℕ, Bool, true, false, List, [], ◌∷◌, refl, sym, ◌∙◌, ap}
-use Rattle.std.specs.Prelude.{Some, None, is_none, Err, ◌&&◌, ◌==◌, not, length, slice_index_or, bytes_eq, codes, if◌then◌else◌}
+use Rattle.std.specs.Prelude.{Some, None, is_none, Err, ◌&&◌, ◌==◌, not, length, slice_index_or, if◌then◌else◌}
 use Rattle.std.specs.List.{list_any}
 use Rattle.std.specs.Str.{is_utf8, IsUtf8}
 use Rattle.path_text.specs.declared.path.PathError.{PathError}
@@ -8,8 +8,7 @@ use Rattle.path_text.specs.declared.path.PathError.TheVariants.{Empty, TooLong, 
 use Rattle.path_text.specs.Path.{PathRead, refusal_of, is_path, is_control_path}
 use Rattle.path_text.proofs.Texts.{is_path-text}
 use Rattle.station_cli.specs.declared.words.Command.{Command}
-use Rattle.station_cli.specs.declared.words.Command.TheVariants.{Verify}
-use Rattle.station_cli.specs.Words.{is_list_word, is_folder_word, verify_of, command_of, drive_word}
+use Rattle.station_cli.specs.Words.{is_list_word, is_folder_word, named, list_row, command_of, drive_word}
 
 and_false : (a : Bool) → a && false ≡ false
 and_false true = refl
@@ -46,40 +45,25 @@ not_three (a ∷ b ∷ c ∷ d ∷ rest) other = refl
 
 -- the rule for three words
 three : (words : List (List ℕ)) (name list drive : List ℕ) → length words ≡ 3 → name ≡ slice_index_or words 0 [] → list ≡ slice_index_or words 1 [] → drive ≡ slice_index_or words 2 []
-    → (command_of words ≡ verify_of name list drive) × (drive_word words ≡ drive)
+    → (command_of words ≡ list_row name list drive) × (drive_word words ≡ drive)
 three [] name list drive many n l d = absurd (cc many)
 three (a ∷ []) name list drive many n l d = absurd (cc many)
 three (a ∷ b ∷ []) name list drive many n l d = absurd (cc many)
-three (a ∷ b ∷ c ∷ []) name list drive many n l d = (ap (λ x. verify_of x b c) (sym n) ∙ ap (λ x. verify_of name x c) (sym l) ∙ ap (λ x. verify_of name list x) (sym d), sym d)
+three (a ∷ b ∷ c ∷ []) name list drive many n l d = (ap (λ x. list_row x b c) (sym n) ∙ ap (λ x. list_row name x c) (sym l) ∙ ap (λ x. list_row name list x) (sym d), sym d)
 three (a ∷ b ∷ c ∷ e ∷ rest) name list drive many n l d = absurd (cc many)
 
-other_name : (name list drive : List ℕ) → bytes_eq name (codes "verify") ≡ false → verify_of name list drive ≡ None
-other_name name list drive other = ap (λ b. if b && is_list_word list && is_folder_word drive then Some (Verify list) else None) other
+no_drive_word : (name list drive : List ℕ) → is_folder_word drive ≡ false → list_row name list drive ≡ None
+no_drive_word name list drive empty = ap (λ b. if is_list_word list && b then named name list else None) empty ∙ ap (λ b. if b then named name list else None) (and_false (is_list_word list))
 
-no_drive_word : (name list drive : List ℕ) → is_folder_word drive ≡ false → verify_of name list drive ≡ None
-no_drive_word name list drive empty = ap (λ b. if bytes_eq name (codes "verify") && is_list_word list && b then Some (Verify list) else None) empty
-    ∙ ap (λ b. if b then Some (Verify list) else None) (and_false (bytes_eq name (codes "verify") && is_list_word list))
+no_list : (name list drive : List ℕ) → is_list_word list ≡ false → list_row name list drive ≡ None
+no_list name list drive bad = ap (λ b. if b && is_folder_word drive then named name list else None) bad
 
-no_list : (name list drive : List ℕ) → is_list_word list ≡ false → verify_of name list drive ≡ None
-no_list name list drive bad = ap (λ b. if bytes_eq name (codes "verify") && b && is_folder_word drive then Some (Verify list) else None) bad
-    ∙ ap (λ b. if b && is_folder_word drive then Some (Verify list) else None) (and_false (bytes_eq name (codes "verify")))
-
-is_verify : (name list drive path : List ℕ) → bytes_eq name (codes "verify") ≡ true → is_list_word list ≡ true → is_folder_word drive ≡ true → path ≡ list → verify_of name list drive ≡ Some (Verify path)
-is_verify name list drive path n l d same =
-    ap (λ b. if b && is_list_word list && is_folder_word drive then Some (Verify list) else None) n
-    ∙ ap (λ b. if true && b && is_folder_word drive then Some (Verify list) else None) l
-    ∙ ap (λ b. if true && true && b then Some (Verify list) else None) d
-    ∙ ap (λ p. Some (Verify p)) (sym same)
+is_row : (name list drive : List ℕ) → is_list_word list ≡ true → is_folder_word drive ≡ true → list_row name list drive ≡ named name list
+is_row name list drive l d = ap (λ b. if b && is_folder_word drive then named name list else None) l ∙ ap (λ b. if true && b then named name list else None) d
 
 pub unnot : (b c : Bool) → c ≡ not b → b ≡ not c
 unnot true c same = ap not (sym same)
 unnot false c same = ap not (sym same)
-
--- three words of which the first is another name
-pub name_refused : (words : List (List ℕ)) (name : List ℕ) → length words ≡ 3 → name ≡ slice_index_or words 0 [] → bytes_eq name (codes "verify") ≡ false → command_of words ≡ None
-name_refused words name many n other =
-    (three words name (slice_index_or words 1 []) (slice_index_or words 2 []) many n refl refl).0
-    ∙ other_name name (slice_index_or words 1 []) (slice_index_or words 2 []) other
 
 -- three words of which the last is empty
 pub drive_refused : (words : List (List ℕ)) (drive : List ℕ) → length words ≡ 3 → drive ≡ slice_index_or words 2 [] → is_folder_word drive ≡ false → command_of words ≡ None
@@ -91,10 +75,10 @@ pub list_refused : (words : List (List ℕ)) (list : List ℕ) → length words 
 list_refused words list many l bad =
     (three words (slice_index_or words 0 []) list (slice_index_or words 2 []) many refl l refl).0 ∙ no_list (slice_index_or words 0 []) list (slice_index_or words 2 []) bad
 
--- three words that are `verify`
-pub command_is : (words : List (List ℕ)) (name list drive path : List ℕ) → length words ≡ 3 → name ≡ slice_index_or words 0 [] → list ≡ slice_index_or words 1 [] → drive ≡ slice_index_or words 2 []
-    → bytes_eq name (codes "verify") ≡ true → is_list_word list ≡ true → is_folder_word drive ≡ true → path ≡ list → command_of words ≡ Some (Verify path)
-command_is words name list drive path many n l d named listed foldered same = (three words name list drive many n l d).0 ∙ is_verify name list drive path named listed foldered same
+-- three words of which the second is a list and the third no empty word
+pub row_is : (words : List (List ℕ)) (name list drive path : List ℕ) → length words ≡ 3 → name ≡ slice_index_or words 0 [] → list ≡ slice_index_or words 1 [] → drive ≡ slice_index_or words 2 []
+    → is_list_word list ≡ true → is_folder_word drive ≡ true → path ≡ list → command_of words ≡ named name path
+row_is words name list drive path many n l d listed foldered same = (three words name list drive many n l d).0 ∙ is_row name list drive listed foldered ∙ ap (named name) (sym same)
 
 refused_none : {A : Type 0} (c : Command) → None ≡ Some c → A
 refused_none c same = absurd (cc same)

@@ -11,7 +11,7 @@ use Rattle.bay_core.specs.declared.failed.Failed.{Failed as DeviceFailed}
 use Rattle.bay_core.specs.Map.{Map}
 use Rattle.bay_core.specs.Replay.{Device, Source, Drive, Attaching, Output, Clock, Picker, reads}
 use Rattle.bay_core.specs.World.{World, Attached, Honest, Rose}
-use Rattle.bay_core.specs.Went.{Went, Only, Made, Then}
+use Rattle.bay_core.specs.Went.{Went, Only, Made, MaySee, Then}
 use Rattle.bay_core.specs.Attach.{SameDrive, Attaches, AttachCall}
 use Rattle.bay_core.specs.Looks.{NoChange, Looks, says, Here, Stopped, Caused, Says, said}
 use Rattle.bay_core.proofs.Runs.{made_then, all_on, went_then, went_such, since_made, rose_still, rose_since, told_since}
@@ -29,9 +29,12 @@ use Rattle.verify_run.specs.Results.{Verified, looked}
 use Rattle.verify_run.proofs.Checks.{looked_looks}
 use Rattle.verify_run.specs.Report.{report_lines, report_first_lines, report_verdict, outcome_of}
 use Rattle.verify_run.specs.Seen.{Reports}
-use Rattle.station_cli.specs.declared.words.Command.TheVariants.{Verify}
-use Rattle.station_cli.specs.Words.{command_of, drive_word}
-use Rattle.station_cli.specs.Story.{Story, memory_end, StoryWords, Ran, NoMemory, NoCommand, NoDrive, NoList, NoVerdict, WithVerdict, End, LastLine, NoLine, load_end, verify_end, end_of, outcome_status, EndCalls, EndStatus, Ended, DriveCalls, StoryCalls, StoryCause, StoryTrue, SaidSince, BegunSince, end_lines, Touched, RunCalls, RunOf, RanOn, IsLoadStory, IsOnDrive, RanVerify}
+use Rattle.mhl_writer.specs.ListText.{values_of}
+use Rattle.station_cli.specs.declared.words.Command.{Command}
+use Rattle.station_cli.specs.declared.words.Command.TheVariants.{Verify, Print}
+use Rattle.station_cli.specs.Words.{command_of, list_of, drive_word}
+use Rattle.station_cli.specs.Table.{print_lines, BrokeOff, Told, Untold}
+use Rattle.station_cli.specs.Story.{Story, memory_end, StoryWords, Ran, NoMemory, NoCommand, NoDrive, NoList, NoVerdict, WithVerdict, PartOfTable, WithTable, StoryCommand, End, LastLine, NoLine, load_end, verify_end, end_of, outcome_status, EndCalls, EndStatus, Ended, DriveCalls, StoryCalls, StoryCause, StoryTrue, SaidSince, BegunSince, end_lines, Touched, RunCalls, RunOf, RanOn, IsLoadStory, IsOnDrive, RanCommand}
 
 -- what holds of the map of an honest drive still holds after calls
 still_so : {On : Device → Type 0} {P : List Event → Type 0} {mid new : World} (H : Map → Type 0) (d : ℕ) → ((L : List Event) → P L → NoChange L) → Went On P mid new
@@ -68,16 +71,17 @@ unloaded_cause old d (Unreadable e) cause w = tt
 unloaded_cause old d Memory cause w = tt
 
 -- the list was not loaded
-pub ran_unloaded : (d : ℕ) (list : List ℕ) (e : LoadError) (result : ℕ) (old mid new : World) → Loaded d list (Err e) old mid → Ended (load_end e) result mid new → RanOn d list result old new
-ran_unloaded d list e result old mid new loaded ended =
+pub ran_unloaded : (d : ℕ) (command : Command) (e : LoadError) (result : ℕ) (old mid new : World) → Loaded d (list_of command) (Err e) old mid → Ended (load_end e) result mid new → RanOn d command result old new
+ran_unloaded d command e result old mid new loaded ended =
     let w = ended_here d ended in
     record {
       story = NoList e;
       went = went_such (λ L t. (t.first, t.second, t.is, t.here, t.there)) (went_then (drive_here d loaded.went) w);
       on_drive = tt;
+      command_is = refl;
       cause = unloaded_cause old d e (λ same. loaded.cause (ap Err same)) w;
       status = status_since new (load_end e) result loaded.went ended.status;
-      honest = still_so (λ m. LoadGives (get m list) (Err e)) d (end_keeps (load_end e) result) w loaded.honest;
+      honest = still_so (λ m. LoadGives (get m (list_of command)) (Err e)) d (end_keeps (load_end e) result) w loaded.honest;
     }
 
 -- what holds after calls, where they are told, may follow from what they were
@@ -111,7 +115,7 @@ verified_looks d entries own v w =
 
 -- nothing is said while a list is loaded
 load_says_nothing : (d : ℕ) (list : List ℕ) (hashes : HashList) (L : List Event) → LoadCalls d list (Ok hashes) L → said L ≡ []
-load_says_nothing d list hashes L (canonical, (files, t)) = ap said t.is ∙ said_tiles d list 0 t.calls t.such.1.tiles
+load_says_nothing d list hashes L (bytes, (files, t), means) = ap said t.is ∙ said_tiles d list 0 t.calls t.such.1.tiles
 
 -- how a verification went that came to its verdict
 pub record Came (d : ℕ) (hashes : HashList) (list : List ℕ) (v : Verdict) (mid new : World) : Type 0 where
@@ -138,13 +142,14 @@ caused_since old new None one two cause = tt
 caused_since old new (Some x) one two cause = rose_still x (old.faults x) two (rose_since x _ one cause)
 
 -- there is a verdict
-pub ran_verified : (d : ℕ) (list : List ℕ) (hashes : HashList) (v : Verdict) (result : ℕ) (old mid new : World) → Loaded d list (Ok hashes) old mid → Came d hashes list v mid new → result ≡ outcome_status (outcome_of v) → RanOn d list result old new
+pub ran_verified : (d : ℕ) (list : List ℕ) (hashes : HashList) (v : Verdict) (result : ℕ) (old mid new : World) → Loaded d list (Ok hashes) old mid → Came d hashes list v mid new → result ≡ outcome_status (outcome_of v) → RanOn d (Verify list) result old new
 ran_verified d list hashes v result old mid new loaded came status =
     record {
       story = WithVerdict hashes v;
       went = went_such (λ L t. (L, [], sym (append-nil L), (t.first, t.second, t.is, t.here, t.there.0, t.there.1), (refl, status)))
-          (went_given (drive_here d loaded.went) came.answered (λ A calls. went_both came.answered (came.seen calls.0.distinct)));
+          (went_given (drive_here d loaded.went) came.answered (λ A calls. went_both came.answered (came.seen loaded.distinct)));
       on_drive = tt;
+      command_is = refl;
       cause = tt;
       status = status;
       honest = λ m all h. (
@@ -185,7 +190,7 @@ begun_since d list hashes lines end result at all one two three stopped now =
 
 -- the verification broke off
 pub ran_unverified : (d : ℕ) (list : List ℕ) (hashes : HashList) (e : VerifyError) (result : ℕ) (old mid stop new : World) → Loaded d list (Ok hashes) old mid → Stopped d (stopped_at_device d e) mid stop
-    → ((m : Map) (L : List Event) → Honest stop d m L → Went (Here d) (Begun (report_first_lines hashes.entries.items (reads m L d) list)) mid stop) → Ended (verify_end e) result stop new → RanOn d list result old new
+    → ((m : Map) (L : List Event) → Honest stop d m L → Went (Here d) (Begun (report_first_lines hashes.entries.items (reads m L d) list)) mid stop) → Ended (verify_end e) result stop new → RanOn d (Verify list) result old new
 ran_unverified d list hashes e result old mid stop new loaded stopped begun ended =
     let w = ended_here d ended in
     let load = drive_here d loaded.went in
@@ -195,6 +200,7 @@ ran_unverified d list hashes e result old mid stop new loaded stopped begun ende
       went = went_such (λ L t. (t.first ++ t.there.first, t.there.second, t.is ∙ ap (λ (l : List Event). t.first ++ l) t.there.is ∙ sym (append_assoc t.first t.there.first t.there.second), (t.first, t.there.first, refl, t.here, t.there.here), t.there.there))
           (went_then load later);
       on_drive = tt;
+      command_is = refl;
       cause = caused_since old new (stopped_at_device d e) loaded.went w stopped.cause;
       status = status_since new (verify_end e) result (went_then load stopped.went) ended.status;
       honest = λ m all h.
@@ -206,6 +212,45 @@ ran_unverified d list hashes e result old mid stop new loaded stopped begun ende
             subst (λ map. BegunSince (report_first_lines hashes.entries.items map list) (verify_end e) old.events all) there
                 (begun_since d list hashes (report_first_lines hashes.entries.items (reads m at d) list) (verify_end e) result at all load (begun m at was) w was.events h.events),
           );
+    }
+
+-- lines change nothing
+lines_keep : (lines : List (List ℕ)) (L : List Event) → L ≡ says lines → NoChange L
+lines_keep lines L is = looks_keep L (subst Looks (sym is) (says_looks lines))
+
+broken_keeps : (lines : List (List ℕ)) (L : List Event) → BrokeOff lines L → NoChange L
+broken_keeps lines L b = subst NoChange (sym b.calls_are) (no_change_append (says b.first) b.last (lines_keep b.first (says b.first) refl) (last_keeps b.last b.failed))
+  where
+    last_keeps : (last : List Event) → MaySee (Say b.next false) last → NoChange last
+    last_keeps last (inl is) = subst NoChange (sym is) no_change_none
+    last_keeps last (inr is) = say_keeps b.next false last is
+
+-- the table was said
+pub ran_printed : (d : ℕ) (list : List ℕ) (hashes : HashList) (old mid new : World) → Loaded d list (Ok hashes) old mid → Told (print_lines (values_of hashes)) mid new → RanOn d (Print list) 0 old new
+ran_printed d list hashes old mid new loaded told =
+    let w = output_here d told in
+    record {
+      story = WithTable hashes;
+      went = went_such (λ L t. (L, [], sym (append-nil L), (t.first, t.second, t.is, t.here, t.there), (refl, refl))) (went_then (drive_here d loaded.went) w);
+      on_drive = tt;
+      command_is = refl;
+      cause = tt;
+      status = refl;
+      honest = still_so (λ map. LoadGives (get map list) (Ok hashes)) d (lines_keep (print_lines (values_of hashes))) w loaded.honest;
+    }
+
+-- a line of the table could not be said
+pub ran_unprinted : (d : ℕ) (list : List ℕ) (hashes : HashList) (old mid new : World) → Loaded d list (Ok hashes) old mid → Untold (print_lines (values_of hashes)) mid new → RanOn d (Print list) 5 old new
+ran_unprinted d list hashes old mid new loaded untold =
+    let w = output_here d untold.went in
+    record {
+      story = PartOfTable hashes;
+      went = went_such (λ L t. (L, [], sym (append-nil L), (t.first, t.second, t.is, t.here, t.there), (refl, refl))) (went_then (drive_here d loaded.went) w);
+      on_drive = tt;
+      command_is = refl;
+      cause = rose_since Output (new.faults Output) loaded.went untold.cause;
+      status = refl;
+      honest = still_so (λ map. LoadGives (get map list) (Ok hashes)) d (broken_keeps (print_lines (values_of hashes))) w loaded.honest;
     }
 
 -- one attach, and then calls on the drive that it attached
@@ -244,6 +289,8 @@ attached_cause new d (NoList (Unreadable e)) load a cause = tt
 attached_cause new d (NoList Memory) load a cause = tt
 attached_cause new d (NoVerdict hashes e) load a cause = attached_caused new d (stopped_at_device d e) a cause
 attached_cause new d (WithVerdict hashes v) load a cause = tt
+attached_cause new d (PartOfTable hashes) load a cause = attached_rose d Output (new.faults Output) a cause
+attached_cause new d (WithTable hashes) load a cause = tt
 
 drive_story : (story : Story) (list place : List ℕ) (d : ℕ) (L : List Event) → IsLoadStory story → DriveCalls story list d L → StoryCalls story list place d (AttachDrive d place ∷ L)
 drive_story NoMemory list place d L load calls = absurd load
@@ -252,6 +299,8 @@ drive_story NoDrive list place d L load calls = absurd load
 drive_story (NoList e) list place d L load calls = (L, refl, calls)
 drive_story (NoVerdict hashes e) list place d L load calls = (L, refl, calls)
 drive_story (WithVerdict hashes v) list place d L load calls = (L, refl, calls)
+drive_story (PartOfTable hashes) list place d L load calls = (L, refl, calls)
+drive_story (WithTable hashes) list place d L load calls = (L, refl, calls)
 
 said_before : {lines : List (List ℕ)} {place : List ℕ} {old mid : World} (d : ℕ) (all : List Event) → Attaches place (Ok d) old mid → SaidSince lines mid.events all → SaidSince lines old.events all
 said_before {lines} {place} {old} {mid} d all a s =
@@ -290,6 +339,8 @@ attached_true d NoDrive list m all load a true_so = absurd load
 attached_true d (NoList e) list m all load a true_so = true_so
 attached_true d (NoVerdict hashes e) list m all load a (gives, begun) = (gives, begun_before d all a begun)
 attached_true d (WithVerdict hashes v) list m all load a (gives, is, lines) = (gives, is, said_before d all a lines)
+attached_true d (PartOfTable hashes) list m all load a true_so = true_so
+attached_true d (WithTable hashes) list m all load a true_so = true_so
 
 attached_calls : (story : Story) (list place : List ℕ) (d result : ℕ) (L : List Event) → IsLoadStory story
     → Then (AttachCall place (Ok d)) (λ l. (A : List Event) × (B : List Event) × (l ≡ A ++ B) × DriveCalls story list d A × EndCalls (end_of story) result B) L → RunCalls story list place d result L
@@ -307,11 +358,14 @@ load_on NoDrive load = absurd load
 load_on (NoList e) load = tt
 load_on (NoVerdict hashes e) load = tt
 load_on (WithVerdict hashes v) load = tt
+load_on (PartOfTable hashes) load = tt
+load_on (WithTable hashes) load = tt
 
 -- a run on the drive that was attached first
-run_on : (list place : List ℕ) (result : ℕ) (old mid new : World) → Attaches place (Ok old.attached.drives) old mid → (on : RanOn old.attached.drives list result mid new) → RunOf on.story list place result old new
-run_on list place result old mid new a on =
+run_on : (command : Command) (place : List ℕ) (result : ℕ) (old mid new : World) → Attaches place (Ok old.attached.drives) old mid → (on : RanOn old.attached.drives command result mid new) → RunOf on.story (list_of command) place result old new
+run_on command place result old mid new a on =
     let d = old.attached.drives in
+    let list = list_of command in
     record {
       told = λ all now. let m = made_attached d a.told (on.went.told all now) in
           record { before = m.before; since = m.since; was = m.was; is = m.is; on = m.on; such = attached_calls on.story list place d result m.since on.on_drive m.such };
@@ -323,12 +377,12 @@ run_on list place result old mid new a on =
       honest = λ m all h. attached_true d on.story list (reads m all d) all on.on_drive a (on.honest m all h);
     }
 
--- `verify` went on to its drive
-pub verify_ran : (d : ℕ) (list place : List ℕ) (result : ℕ) (old mid new : World) → Attaches place (Ok d) old mid → RanOn d list result mid new → RanVerify list place result old new
-verify_ran d list place result old mid new a on =
+-- a command went on to its drive
+pub command_ran : (d : ℕ) (command : Command) (place : List ℕ) (result : ℕ) (old mid new : World) → Attaches place (Ok d) old mid → RanOn d command result mid new → RanCommand command place result old new
+command_ran d command place result old mid new a on =
     let next = a.numbered.0 in
-    let there = subst (λ n. RanOn n list result mid new) next on in
-    record { story = there.story; on_drive = load_on there.story there.on_drive; run = run_on list place result old mid new (subst (λ n. Attaches place (Ok n) old mid) next a) there }
+    let there = subst (λ n. RanOn n command result mid new) next on in
+    record { story = there.story; on_drive = load_on there.story there.on_drive; command_is = there.command_is; run = run_on command place result old mid new (subst (λ n. Attaches place (Ok n) old mid) next a) there }
 
 failed_later : {place : List ℕ} {old mid : World} (e : DeviceFailed) → Attaches place (Err e) old mid → (x : Device) → old.faults x ≤ mid.faults x
 failed_later e a Attaching = a.later
@@ -344,12 +398,13 @@ failed_status {old = old} {mid = mid} e new (LastLine line status) result a (inr
 failed_status e new (NoLine status) result a same = same
 
 -- the drive was not attached
-pub verify_not_ran : (list place : List ℕ) (e : DeviceFailed) (result : ℕ) (old mid new : World) → Attaches place (Err e) old mid → Ended (end_of NoDrive) result mid new → RanVerify list place result old new
-verify_not_ran list place e result old mid new a ended =
+pub command_not_ran : (command : Command) (place : List ℕ) (e : DeviceFailed) (result : ℕ) (old mid new : World) → Attaches place (Err e) old mid → Ended (end_of NoDrive) result mid new → RanCommand command place result old new
+command_not_ran command place e result old mid new a ended =
     let d = old.attached.drives in
     record {
       story = NoDrive;
       on_drive = tt;
+      command_is = refl;
       run = record {
         told = λ all now. let m = made_attached d a.told ((output_here d ended.went).told all now) in
             record { before = m.before; since = m.since; was = m.was; is = m.is; on = m.on; such = (m.such.first, m.such.second, m.such.is, m.such.here, m.such.there) };
@@ -396,20 +451,23 @@ ran_refused words result old new none ended = record {
   run = ran_early NoCommand [] [] result old new refl tt (λ m all. tt) ended;
 }
 
-verify_words : (story : Story) (words : List (List ℕ)) (list place : List ℕ) → IsOnDrive story → command_of words ≡ Some (Verify list) → place ≡ drive_word words → StoryWords story words list place
-verify_words NoMemory words list place on is same = absurd on
-verify_words NoCommand words list place on is same = absurd on
-verify_words NoDrive words list place on is same = (is, same)
-verify_words (NoList e) words list place on is same = (is, same)
-verify_words (NoVerdict hashes e) words list place on is same = (is, same)
-verify_words (WithVerdict hashes v) words list place on is same = (is, same)
+command_words : (story : Story) (words : List (List ℕ)) (command : Command) (place : List ℕ) → IsOnDrive story → command_of words ≡ Some command → StoryCommand story (list_of command) command → place ≡ drive_word words
+    → StoryWords story words (list_of command) place
+command_words NoMemory words command place on is of same = absurd on
+command_words NoCommand words command place on is of same = absurd on
+command_words NoDrive words command place on is of same = (command, is, of, same)
+command_words (NoList e) words command place on is of same = (command, is, of, same)
+command_words (NoVerdict hashes e) words command place on is of same = (command, is, of, same)
+command_words (WithVerdict hashes v) words command place on is of same = (command, is, of, same)
+command_words (PartOfTable hashes) words command place on is of same = (command, is, of, same)
+command_words (WithTable hashes) words command place on is of same = (command, is, of, same)
 
--- the words were `verify`
-pub ran_verify : (words : List (List ℕ)) (list place : List ℕ) (result : ℕ) (old new : World) → command_of words ≡ Some (Verify list) → place ≡ drive_word words → RanVerify list place result old new → Ran words result old new
-ran_verify words list place result old new is same ran = record {
+-- the words were a command
+pub ran_command : (words : List (List ℕ)) (command : Command) (place : List ℕ) (result : ℕ) (old new : World) → command_of words ≡ Some command → place ≡ drive_word words → RanCommand command place result old new → Ran words result old new
+ran_command words command place result old new is same ran = record {
   story = ran.story;
-  list = list;
+  list = list_of command;
   place = place;
-  words_are = verify_words ran.story words list place ran.on_drive is same;
+  words_are = command_words ran.story words command place ran.on_drive is ran.command_is same;
   run = ran.run;
 }

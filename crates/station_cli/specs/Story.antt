@@ -8,9 +8,12 @@ use Rattle.bay_core.specs.Replay.{Device, Drive, Attaching, Output, reads}
 use Rattle.bay_core.specs.World.{World, Honest, Rose}
 use Rattle.bay_core.specs.Went.{Went, Only, Made, MaySee}
 use Rattle.bay_core.specs.Attach.{SameDrive}
-use Rattle.bay_core.specs.Looks.{Here, Looks, Stops, Caused, said}
+use Rattle.bay_core.specs.Looks.{Here, Looks, Stops, Caused, says, said}
 use Rattle.mhl_writer.specs.declared.values.HashList.{HashList}
-use Rattle.report_text.specs.Line.{failed_attach_drive_text, unreadable_toolarge_text}
+use Rattle.mhl_writer.specs.ListText.{values_of}
+use Rattle.mhl_reader.specs.declared.error.ReadError.{ReadError}
+use Rattle.mhl_reader.specs.declared.error.ReadError.TheVariants.{NotUtf8, Malformed, Doctype, Cdata, Version, NoFile, Twice, BadPath, BadSize, BadDigest, TooMany, Memory as MemoryRead}
+use Rattle.report_text.specs.Line.{failed_attach_drive_text, unreadable_toolarge_text, unreadable_text}
 use Rattle.verify_run.specs.declared.loading.LoadError.{LoadError}
 use Rattle.verify_run.specs.declared.loading.LoadError.TheVariants.{DriveFailed, Absent, TooLarge, Unreadable, Memory}
 use Rattle.verify_run.specs.declared.verdict.VerifyError.{VerifyError}
@@ -22,11 +25,14 @@ use Rattle.verify_run.specs.Calls.{stopped_at_device}
 use Rattle.verify_run.specs.Report.{outcome_of, report_lines, report_first_lines, report_verdict}
 use Rattle.verify_run.specs.Seen.{Reports}
 use Rattle.verify_run.specs.Loading.{LoadCalls, LoadGives}
-use Rattle.station_cli.specs.declared.words.Command.TheVariants.{Verify}
-use Rattle.station_cli.specs.Words.{command_of, drive_word}
+use Rattle.station_cli.specs.declared.words.Command.{Command}
+use Rattle.station_cli.specs.declared.words.Command.TheVariants.{Verify, Print}
+use Rattle.station_cli.specs.Words.{command_of, list_of, drive_word}
+use Rattle.station_cli.specs.Table.{print_lines, BrokeOff}
 
 -- How a run went: memory was wanting at its start; the words fit no command; the drive was not attached; the list was not
--- loaded; the list was loaded and the verification broke off; the list was loaded and there is a verdict.
+-- loaded; the list was loaded and the verification broke off; the list was loaded and there is a verdict; the list was loaded and its
+-- table broke off; the list was loaded and its table was said.
 pub data Story : Type 0 where
   NoMemory : Story
   NoCommand : Story
@@ -34,6 +40,8 @@ pub data Story : Type 0 where
   NoList : LoadError → Story
   NoVerdict : HashList → VerifyError → Story
   WithVerdict : HashList → Verdict → Story
+  PartOfTable : HashList → Story
+  WithTable : HashList → Story
 
 -- how a run ends: with a line and then a status, or with a status alone
 pub data End : Type 0 where
@@ -49,11 +57,26 @@ outcome_status SomeUnchecked = 6
 abbrev pub memory_end : End
 memory_end = LastLine (codes "memory") 9
 
+-- the fault of a list, with its place; want of memory is never one, by LoadCalls
+abbrev pub fault_end : ReadError → End
+fault_end (NotUtf8 at) = LastLine (unreadable_text (codes "notutf8") at) 7
+fault_end (Malformed at) = LastLine (unreadable_text (codes "malformed") at) 7
+fault_end (Doctype at) = LastLine (unreadable_text (codes "doctype") at) 7
+fault_end (Cdata at) = LastLine (unreadable_text (codes "cdata") at) 7
+fault_end Version = LastLine (codes "unreadable version") 7
+fault_end (NoFile at) = LastLine (unreadable_text (codes "nofile") at) 7
+fault_end (Twice at) = LastLine (unreadable_text (codes "twice") at) 7
+fault_end (BadPath at) = LastLine (unreadable_text (codes "badpath") at) 7
+fault_end (BadSize at) = LastLine (unreadable_text (codes "badsize") at) 7
+fault_end (BadDigest at) = LastLine (unreadable_text (codes "baddigest") at) 7
+fault_end (TooMany at) = LastLine (unreadable_text (codes "toomany") at) 7
+fault_end MemoryRead = memory_end
+
 abbrev pub load_end : LoadError → End
 load_end DriveFailed = LastLine (codes "failed drive") 8
 load_end Absent = LastLine (codes "unreadable absent") 7
 load_end (TooLarge len) = LastLine (unreadable_toolarge_text len) 7
-load_end (Unreadable e) = LastLine (codes "unreadable notyet") 7
+load_end (Unreadable e) = fault_end e
 load_end Memory = memory_end
 
 abbrev pub verify_end : VerifyError → End
@@ -68,6 +91,8 @@ end_of NoDrive = LastLine (failed_attach_drive_text 0) 4
 end_of (NoList e) = load_end e
 end_of (NoVerdict list e) = verify_end e
 end_of (WithVerdict list v) = NoLine (outcome_status (outcome_of v))
+end_of (PartOfTable list) = NoLine 5
+end_of (WithTable list) = NoLine 0
 
 -- the calls of an end: its line, and no call after it; where the line could not be said the status is 5
 abbrev pub EndCalls : End → ℕ → List Event → Type 0
@@ -79,18 +104,28 @@ abbrev pub EndStatus : End → ℕ → World → World → Type 0
 EndStatus (LastLine line status) result old new = (result ≡ status) ⊎ ((result ≡ 5) × Rose (old.faults Output) (new.faults Output))
 EndStatus (NoLine status) result old new = result ≡ status
 
--- the words of a story: `verify`, its list, and the drive at a place
+-- the command of a story: only `verify` verifies, only `print` prints, and both attach a drive and load their list
+abbrev pub StoryCommand : Story → List ℕ → Command → Type 0
+StoryCommand (NoVerdict hashes e) list command = command ≡ Verify list
+StoryCommand (WithVerdict hashes v) list command = command ≡ Verify list
+StoryCommand (PartOfTable hashes) list command = command ≡ Print list
+StoryCommand (WithTable hashes) list command = command ≡ Print list
+StoryCommand _ list command = list ≡ list_of command
+
+-- the words of a story: its command with its list, and the drive at a place
 abbrev pub StoryWords : Story → List (List ℕ) → List ℕ → List ℕ → Type 0
 StoryWords NoMemory words list place = Unit {0}
 StoryWords NoCommand words list place = command_of words ≡ None
-StoryWords _ words list place = (command_of words ≡ Some (Verify list)) × (place ≡ drive_word words)
+StoryWords story words list place = (command : Command) × (command_of words ≡ Some command) × StoryCommand story list command × (place ≡ drive_word words)
 
 -- The calls of a story on its drive, before its end: the loading of the list; the verification, whose report is the one on what its calls
--- saw, all of them answered where there is a verdict. A call that failed is the last of them.
+-- saw, all of them answered where there is a verdict; or the table of the list, line by line. A call that failed is the last of them.
 abbrev pub DriveCalls : Story → List ℕ → ℕ → List Event → Type 0
 DriveCalls (NoList e) list d L = LoadCalls d list (Err e) L
 DriveCalls (NoVerdict hashes e) list d L = (A : List Event) × (B : List Event) × (L ≡ A ++ B) × LoadCalls d list (Ok hashes) A × Stops (stopped_at_device d e) B
 DriveCalls (WithVerdict hashes v) list d L = (A : List Event) × (B : List Event) × (L ≡ A ++ B) × LoadCalls d list (Ok hashes) A × Looks B × Reports d hashes.entries.items list v B
+DriveCalls (PartOfTable hashes) list d L = (A : List Event) × (B : List Event) × (L ≡ A ++ B) × LoadCalls d list (Ok hashes) A × BrokeOff (print_lines (values_of hashes)) B
+DriveCalls (WithTable hashes) list d L = (A : List Event) × (B : List Event) × (L ≡ A ++ B) × LoadCalls d list (Ok hashes) A × (B ≡ says (print_lines (values_of hashes)))
 DriveCalls _ list d L = ⊥
 
 -- all calls of a story before its end; the drive's come after its attach
@@ -105,6 +140,7 @@ abbrev pub StoryCause : Story → ℕ → World → World → Type 0
 StoryCause NoDrive d old new = Rose (old.faults Attaching) (new.faults Attaching)
 StoryCause (NoList DriveFailed) d old new = Rose (old.faults (Drive d)) (new.faults (Drive d))
 StoryCause (NoVerdict hashes e) d old new = Caused (stopped_at_device d e) old new
+StoryCause (PartOfTable hashes) d old new = Rose (old.faults Output) (new.faults Output)
 StoryCause _ d old new = Unit {0}
 
 -- the lines that were said since
@@ -132,13 +168,16 @@ pub record BegunSince (lines : List (List ℕ)) (end : End) (old : Option (List 
   pub said_are : (said since ≡ first ++ end_lines end) ⊎ (said since ≡ first)
 
 -- A story on an honest drive that has this map: the list was not loaded for what the map has at its path; before a verification broke
--- off it had said first lines of the report on the map, and not its verdict; a verdict is that of the report, and the lines are its lines.
+-- off it had said first lines of the report on the map, and not its verdict; a verdict is that of the report, and the lines are its lines;
+-- a table is that of the list which the map has at its path.
 abbrev pub StoryTrue : Story → List ℕ → Map → Option (List Event) → List Event → Type 0
 StoryTrue (NoList e) list m old all = LoadGives (get m list) (Err e)
 StoryTrue (NoVerdict hashes e) list m old all =
     LoadGives (get m list) (Ok hashes) × BegunSince (report_first_lines hashes.entries.items m list) (verify_end e) old all
 StoryTrue (WithVerdict hashes v) list m old all =
     LoadGives (get m list) (Ok hashes) × (v ≡ report_verdict hashes.entries.items m list) × SaidSince (report_lines hashes.entries.items m list) old all
+StoryTrue (PartOfTable hashes) list m old all = LoadGives (get m list) (Ok hashes)
+StoryTrue (WithTable hashes) list m old all = LoadGives (get m list) (Ok hashes)
 StoryTrue _ list m old all = Unit {0}
 
 -- the devices of a run: attaching, the drive that it attaches, the output
@@ -172,6 +211,8 @@ abbrev pub IsLoadStory : Story → Type 0
 IsLoadStory (NoList e) = Unit {0}
 IsLoadStory (NoVerdict hashes e) = Unit {0}
 IsLoadStory (WithVerdict hashes v) = Unit {0}
+IsLoadStory (PartOfTable hashes) = Unit {0}
+IsLoadStory (WithTable hashes) = Unit {0}
 IsLoadStory _ = ⊥
 
 -- a story that went on to a drive
@@ -180,22 +221,24 @@ IsOnDrive NoMemory = ⊥
 IsOnDrive NoCommand = ⊥
 IsOnDrive _ = Unit {0}
 
--- a run for the list and the drive of `verify`
-pub record RanVerify (list place : List ℕ) (result : ℕ) (old new : World) : Type 0 where
+-- a run of a command for its list and its drive
+pub record RanCommand (command : Command) (place : List ℕ) (result : ℕ) (old new : World) : Type 0 where
   pub story : Story
   pub on_drive : IsOnDrive story
-  pub run : RunOf story list place result old new
+  pub command_is : StoryCommand story (list_of command) command
+  pub run : RunOf story (list_of command) place result old new
 
 -- the end of a run
 pub record Ended (end : End) (result : ℕ) (old new : World) : Type 0 where
   pub went : Went (Only Output) (EndCalls end result) old new
   pub status : EndStatus end result old new
 
--- a run on a drive that is attached
-pub record RanOn (d : ℕ) (list : List ℕ) (result : ℕ) (old new : World) : Type 0 where
+-- a run of a command on a drive that is attached
+pub record RanOn (d : ℕ) (command : Command) (result : ℕ) (old new : World) : Type 0 where
   pub story : Story
-  pub went : Went (Here d) (λ L. (A : List Event) × (B : List Event) × (L ≡ A ++ B) × DriveCalls story list d A × EndCalls (end_of story) result B) old new
+  pub went : Went (Here d) (λ L. (A : List Event) × (B : List Event) × (L ≡ A ++ B) × DriveCalls story (list_of command) d A × EndCalls (end_of story) result B) old new
   pub on_drive : IsLoadStory story
+  pub command_is : StoryCommand story (list_of command) command
   pub cause : StoryCause story d old new
   pub status : EndStatus (end_of story) result old new
-  pub honest : (m : Map) (all : List Event) → Honest new d m all → StoryTrue story list (reads m all d) old.events all
+  pub honest : (m : Map) (all : List Event) → Honest new d m all → StoryTrue story (list_of command) (reads m all d) old.events all

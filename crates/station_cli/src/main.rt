@@ -1,6 +1,7 @@
 //! The station's program.
 #![tactic(auto)]
 
+mod printing;
 mod run;
 #[cfg(test)]
 mod tests;

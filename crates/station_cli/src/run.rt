@@ -1,10 +1,13 @@
 //! A run of the station, from its words to its status.
 ghost use Rattle.std.specs.Prelude.{◌≡◌, ◌<◌, ◌-◌, ◌^◌};
 ghost use Rattle.report_text.specs.Line.{line_text, IsShort};
-ghost use Rattle.station_cli.specs.Story.{LastLine, Ended, memory_end, load_end, verify_end, outcome_status, RanOn, RanVerify, Ran};
+ghost use Rattle.station_cli.specs.declared.words.Command.TheVariants.{Verify, Print};
+ghost use Rattle.station_cli.specs.Story.{LastLine, Ended, memory_end, fault_end, load_end, verify_end, outcome_status, RanOn, RanCommand, Ran};
 
-use crate::words::{WordList, WordsError, read_words};
+use crate::printing::print_list;
+use crate::words::{Command, WordList, WordsError, read_words};
 use bay_core::Bay;
+use mhl_reader::ReadError;
 use path_text::{PathText, Scratch};
 use report_text::{Line, line_into, memory_line};
 use std::alloc::Global;
@@ -43,6 +46,26 @@ fn status_of(outcome: Outcome) -> u8
     }
 }
 
+// Ends a run whose list has a fault.
+fn end_unreadable<B: Bay>(bay: &mut B, scratch: &mut Scratch, fault: ReadError) -> u8
+    ensures { Ended (fault_end fault) result (B.world bay.old) (B.world bay.new) }
+{
+    match fault {
+        ReadError::NotUtf8 { at } => end(bay, scratch, &Line::Unreadable("notutf8", at), 7),
+        ReadError::Malformed { at } => end(bay, scratch, &Line::Unreadable("malformed", at), 7),
+        ReadError::Doctype { at } => end(bay, scratch, &Line::Unreadable("doctype", at), 7),
+        ReadError::Cdata { at } => end(bay, scratch, &Line::Unreadable("cdata", at), 7),
+        ReadError::Version => end(bay, scratch, &Line::UnreadableVersion, 7),
+        ReadError::NoFile { at } => end(bay, scratch, &Line::Unreadable("nofile", at), 7),
+        ReadError::Twice { at } => end(bay, scratch, &Line::Unreadable("twice", at), 7),
+        ReadError::BadPath { at } => end(bay, scratch, &Line::Unreadable("badpath", at), 7),
+        ReadError::BadSize { at } => end(bay, scratch, &Line::Unreadable("badsize", at), 7),
+        ReadError::BadDigest { at } => end(bay, scratch, &Line::Unreadable("baddigest", at), 7),
+        ReadError::TooMany { at } => end(bay, scratch, &Line::Unreadable("toomany", at), 7),
+        ReadError::Memory => end(bay, scratch, &Line::Memory, 9),
+    }
+}
+
 // Ends a run whose list was not loaded.
 fn end_unloaded<B: Bay>(bay: &mut B, scratch: &mut Scratch, error: LoadError) -> u8
     ensures { Ended (load_end error) result (B.world bay.old) (B.world bay.new) }
@@ -51,7 +74,7 @@ fn end_unloaded<B: Bay>(bay: &mut B, scratch: &mut Scratch, error: LoadError) ->
         LoadError::DriveFailed => end(bay, scratch, &Line::FailedDrive, 8),
         LoadError::Absent => end(bay, scratch, &Line::UnreadableAbsent, 7),
         LoadError::TooLarge { len } => end(bay, scratch, &Line::UnreadableToolarge(len), 7),
-        LoadError::Unreadable(_) => end(bay, scratch, &Line::UnreadableNotyet, 7),
+        LoadError::Unreadable(fault) => end_unreadable(bay, scratch, fault),
         LoadError::Memory => end(bay, scratch, &Line::Memory, 9),
     }
 }
@@ -76,7 +99,7 @@ fn verify_attached<B: Bay>(
     list: &PathText,
 ) -> u8
     requires { d < (B.world bay.old).attached.drives }
-    ensures { RanOn d list.now result (B.world bay.old) (B.world bay.new) }
+    ensures { RanOn d (Verify list.now) result (B.world bay.old) (B.world bay.new) }
 {
     let hashes = match load_list(alloc, bay, d, list) {
         Ok(hashes) => hashes,
@@ -88,19 +111,57 @@ fn verify_attached<B: Bay>(
     }
 }
 
-// `verify LIST DRIVE`.
-fn run_verify<B: Bay>(
+// Loads the list of an attached drive, and says its table.
+fn print_attached<B: Bay>(
     alloc: Global,
     bay: &mut B,
     scratch: &mut Scratch,
+    d: u32,
     list: &PathText,
+) -> u8
+    requires { d < (B.world bay.old).attached.drives }
+    ensures { RanOn d (Print list.now) result (B.world bay.old) (B.world bay.new) }
+{
+    let hashes = match load_list(alloc, bay, d, list) {
+        Ok(hashes) => hashes,
+        Err(e) => return end_unloaded(bay, scratch, e),
+    };
+    match print_list(bay, scratch, &hashes) {
+        Ok(()) => 0,
+        Err(_) => 5,
+    }
+}
+
+// Does what a command asks for on an attached drive.
+fn run_attached<B: Bay>(
+    alloc: Global,
+    bay: &mut B,
+    scratch: &mut Scratch,
+    d: u32,
+    command: &Command,
+) -> u8
+    requires { d < (B.world bay.old).attached.drives }
+    ensures { RanOn d command.now result (B.world bay.old) (B.world bay.new) }
+{
+    match command {
+        Command::Verify { list } => verify_attached(alloc, bay, scratch, d, list),
+        Command::Print { list } => print_attached(alloc, bay, scratch, d, list),
+    }
+}
+
+// Attaches the drive of a command, and does what the command asks for there.
+fn run_on_drive<B: Bay>(
+    alloc: Global,
+    bay: &mut B,
+    scratch: &mut Scratch,
+    command: &Command,
     place: &str,
 ) -> u8
     requires { (B.world bay.old).attached.drives < 2 ^ 32 - 1 }
-    ensures { RanVerify list.now place.now result (B.world bay.old) (B.world bay.new) }
+    ensures { RanCommand command.now place.now result (B.world bay.old) (B.world bay.new) }
 {
     match bay.attach_drive(place) {
-        Ok(d) => verify_attached(alloc, bay, scratch, d, list),
+        Ok(d) => run_attached(alloc, bay, scratch, d, command),
         Err(_) => end(bay, scratch, &Line::FailedAttachDrive(0), 4),
     }
 }
@@ -115,7 +176,7 @@ pub fn run_command<B: Bay>(alloc: Global, bay: &mut B, words: &WordList) -> u8
         Err(_) => return say_memory(bay),
     };
     match read_words(alloc, words) {
-        Ok(command) => run_verify(alloc, bay, &mut scratch, command.list(), words.word(2)),
+        Ok(command) => run_on_drive(alloc, bay, &mut scratch, &command, words.word(2)),
         Err(WordsError::Words) => end(bay, &mut scratch, &Line::RefusedWords, 2),
         Err(WordsError::Memory) => say_memory(bay),
     }

@@ -124,7 +124,7 @@ fn drives_are_verified(rt: HostRuntime) -> Result<(), Fail> {
         (
             [good, ("x.mhl", half)],
             "ALRRS\n",
-            "unreadable notyet\n",
+            "unreadable malformed 272\n",
             "7",
         ),
         ([good, ("y.mhl", LIST)], "ALS\n", "unreadable absent\n", "7"),
@@ -236,7 +236,7 @@ fn each_kind_of_digest_is_checked(rt: HostRuntime) -> Result<(), Fail> {
 #[test]
 fn other_words_are_refused(rt: HostRuntime) -> Result<(), Fail> {
     let alloc = rt.alloc();
-    let rows: [&[&str]; 9] = [
+    let rows: [&[&str]; 15] = [
         &[],
         &["verify"],
         &["verify", "x.mhl"],
@@ -246,6 +246,12 @@ fn other_words_are_refused(rt: HostRuntime) -> Result<(), Fail> {
         &["verify", "a/x.mhl", "D"],
         &["verify", "..", "D"],
         &["verify", ".mhlstation", "D"],
+        &["print", "x.mhl"],
+        &["print", "x.mhl", "D", "E"],
+        &["Print", "x.mhl", "D"],
+        &["print", "x.mhl", ""],
+        &["print", "a/x.mhl", "D"],
+        &["print", ".mhlstation", "D"],
     ];
     for words in rows {
         let text = run(alloc, &[("x.mhl", LIST)], words, 0)?;
@@ -275,5 +281,174 @@ fn a_failed_call_has_its_status(rt: HostRuntime) -> Result<(), Fail> {
     assert_eq!(rt; unsaid.as_str(), "s\n5");
     let elsewhere = run(alloc, &files, &["verify", "x.mhl", "E"], 0)?;
     assert_eq!(rt; elsewhere.as_str(), "aS\nfailed attach drive 0\n4");
+    Ok(())
+}
+
+// A list whose one file is empty and has all three digests, those of RFC 1321, FIPS 180-4 and the xxHash specification.
+const EMPTY: &str = "<?xml version=\"1.0\" encoding=\"UTF-8\"?>
+<hashlist version=\"1.1\">
+  <creatorinfo>
+    <name>A001</name>
+    <username>ana</username>
+    <hostname>cart1</hostname>
+    <tool>mhlstation 1</tool>
+    <startdate>2014-10-24T12:00:00Z</startdate>
+    <finishdate>2014-10-24T12:00:00Z</finishdate>
+  </creatorinfo>
+  <hash>
+    <file>e.mov</file>
+    <size>0</size>
+    <lastmodificationdate>2014-10-24T00:00:00Z</lastmodificationdate>
+    <md5>d41d8cd98f00b204e9800998ecf8427e</md5>
+    <sha1>da39a3ee5e6b4b0d3255bfef95601890afd80709</sha1>
+    <xxhash64be>ef46db3751d8e999</xxhash64be>
+    <hashdate>2014-10-24T12:00:00Z</hashdate>
+  </hash>
+</hashlist>
+";
+
+// Its table.
+const TABLE: [&str; 8] = [
+    "name A001",
+    "username ana",
+    "hostname cart1",
+    "tool mhlstation 1",
+    "startdate 2014-10-24T12:00:00Z",
+    "finishdate 2014-10-24T12:00:00Z",
+    "                   0 2014-10-24T00:00:00Z d41d8cd98f00b204e9800998ecf8427e da39a3ee5e6b4b0d3255bfef95601890afd80709 ef46db3751d8e999 e.mov",
+    "entries 1",
+];
+
+const PRINT: [&str; 3] = ["print", "x.mhl", "D"];
+
+// What printing that list tells where so many of its lines are said, and all calls before them are answered.
+fn told_table(alloc: Global, said: usize, end: &str) -> Result<String, Fail> {
+    let mut text = "ALRR".to_owned(alloc)?;
+    text.push_str(&"S".repeat(alloc, said)?)?;
+    text.push_str(end)?;
+    for line in TABLE.iter().take(said) {
+        text.push_str(line)?;
+        text.push('\n')?;
+    }
+    Ok(text)
+}
+
+#[test]
+fn a_list_is_printed(rt: HostRuntime) -> Result<(), Fail> {
+    let alloc = rt.alloc();
+    let files = [("x.mhl", EMPTY)];
+    let mut expected = told_table(alloc, 8, "\n")?;
+    expected.push('0')?;
+    assert_eq!(rt; run(alloc, &files, &PRINT, 0)?.as_str(), expected.as_str());
+    let elsewhere = run(alloc, &[("y.mhl", EMPTY)], &PRINT, 0)?;
+    assert_eq!(rt; elsewhere.as_str(), "ALS\nunreadable absent\n7");
+    Ok(())
+}
+
+#[test]
+fn a_list_of_little_is_printed(rt: HostRuntime) -> Result<(), Fail> {
+    let alloc = rt.alloc();
+    let list = "<hashlist version='1.0'><hash><file>b.mov</file></hash></hashlist>";
+    assert_eq!(rt;
+        run(alloc, &[("x.mhl", list)], &PRINT, 0)?.as_str(),
+        "ALRRSSSSSSSS
+name -
+username -
+hostname -
+tool -
+startdate -
+finishdate -
+                   - -                    -                                -                                        -                b.mov
+entries 1
+0"
+    );
+    Ok(())
+}
+
+#[test]
+fn a_table_ends_at_a_line_that_is_not_said(rt: HostRuntime) -> Result<(), Fail> {
+    let alloc = rt.alloc();
+    let files = [("x.mhl", EMPTY)];
+    for said in 0..8 {
+        let mut expected = told_table(alloc, said, "s\n")?;
+        expected.push('5')?;
+        let text = run(alloc, &files, &PRINT, 5 + said as u64)?;
+        assert_eq!(rt; text.as_str(), expected.as_str());
+    }
+    let rows = [
+        (1, "aS\nfailed attach drive 0\n4"),
+        (2, "AlS\nfailed drive\n8"),
+        (3, "ALrS\nfailed drive\n8"),
+        (4, "ALRrS\nfailed drive\n8"),
+    ];
+    for (n, expected) in rows {
+        assert_eq!(rt; run(alloc, &files, &PRINT, n)?.as_str(), expected);
+    }
+    Ok(())
+}
+
+#[test]
+fn a_fault_of_a_list_has_its_line(rt: HostRuntime) -> Result<(), Fail> {
+    let alloc = rt.alloc();
+    let rows = [
+        ("<hashlist version=\"1.1\"></hashlis", "malformed 24"),
+        (
+            "<!DOCTYPE hashlist><hashlist version=\"1.1\"/>",
+            "doctype 0",
+        ),
+        (
+            "<hashlist version=\"1.1\"><![CDATA[a]]></hashlist>",
+            "cdata 24",
+        ),
+        ("<hashlist version=\"2.0\"/>", "version"),
+        (
+            "<hashlist version=\"1.1\"><hash></hash></hashlist>",
+            "nofile 24",
+        ),
+        (
+            "<hashlist version=\"1.1\"><hash><file>a</file></hash><hash><file>a</file></hash></hashlist>",
+            "twice 57",
+        ),
+        (
+            "<hashlist version=\"1.1\"><hash><file>../x</file></hash></hashlist>",
+            "badpath 30",
+        ),
+        (
+            "<hashlist version=\"1.1\"><hash><size>x</size></hash></hashlist>",
+            "badsize 30",
+        ),
+        (
+            "<hashlist version=\"1.1\"><hash><md5>00</md5></hash></hashlist>",
+            "baddigest 30",
+        ),
+    ];
+    for (list, fault) in rows {
+        let expected = format!(in alloc; "ALRRS\nunreadable {fault}\n7")?;
+        for words in [&VERIFY, &PRINT] {
+            let text = run(alloc, &[("x.mhl", list)], words, 0)?;
+            assert_eq!(rt; text.as_str(), expected.as_str());
+        }
+    }
+    Ok(())
+}
+
+#[test]
+fn an_entry_without_a_digest_is_unchecked(rt: HostRuntime) -> Result<(), Fail> {
+    let alloc = rt.alloc();
+    let list = "<?xml version=\"1.0\" encoding=\"UTF-8\"?>
+<!-- made on set -->
+<hashlist version=\"1.0\">
+<hash><md5>900150983CD24FB0D6963F7D28E17F72</md5><size>3</size><file>a.mov</file></hash>
+<hash><file>b.mov</file><xxhash64>123</xxhash64></hash>
+</hashlist>
+";
+    let files = [("x.mhl", list), ("a.mov", "abc"), ("b.mov", "")];
+    assert_eq!(rt;
+        run(alloc, &files, &VERIFY, 0)?.as_str(),
+        "ALRRLRRRSS
+unchecked b.mov
+verdict unchecked 2 entries 0 missing 0 altered 1 unchecked 0 unlisted
+6"
+    );
     Ok(())
 }

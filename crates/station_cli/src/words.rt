@@ -1,9 +1,8 @@
 //! The words of a command line.
 ghost use Rattle.std.specs.Prelude.{◌≡◌, ◌≢◌, ◌<◌, ◌++◌, [], ◌∷◌, ℕ, List, length, slice_index_or, OnOk, OnErr, IfOk, MatchResult, Some, None, true, false};
 ghost use Rattle.path_text.specs.declared.path.PathError.TheVariants.{Memory as NoMemory};
-ghost use Rattle.station_cli.specs.declared.words.Command.TheVariants.{Verify};
 ghost use Rattle.station_cli.specs.declared.words.WordsError.TheVariants.{Words};
-ghost use Rattle.station_cli.specs.Words.{is_list_word, command_of};
+ghost use Rattle.station_cli.specs.Words.{is_list_word, named, command_of};
 
 use path_text::{PathError, PathText, is_control};
 use std::alloc::{AllocError, Global};
@@ -96,17 +95,8 @@ impl WordList {
 pub enum Command {
     /// `verify LIST DRIVE`: the drive's files against the list at a path of one part on it.
     Verify { list: PathText },
-}
-
-impl Command {
-    /// The path of the list.
-    pub fn list(&self) -> &PathText
-        ensures { self.now ≡ Verify result.now }
-    {
-        match self {
-            Command::Verify { list } => list,
-        }
-    }
+    /// `print LIST DRIVE`: the table of the list at a path of one part on the drive.
+    Print { list: PathText },
 }
 
 /// Why words are no command.
@@ -143,16 +133,33 @@ fn list_word(alloc: Global, word: &str) -> Result<PathText, WordsError>
     Ok(list)
 }
 
+// What a first word does with a list; None for a word that is no command.
+fn named(name: &str, list: PathText) -> Option<Command>
+    ensures { result ≡ named name.now list }
+{
+    if name == "verify" {
+        Some(Command::Verify { list })
+    } else if name == "print" {
+        Some(Command::Print { list })
+    } else {
+        None
+    }
+}
+
 /// The command that words are: `Words` exactly where they fit no row.
 pub fn read_words(alloc: Global, words: &WordList) -> Result<Command, WordsError>
     ensures { MatchResult result (λ command. command_of words.now ≡ Some command) (λ e. e ≡ Words → command_of words.now ≡ None) }
 {
-    if words.count() != 3 || words.word(0) != "verify" || words.word(2).is_empty() {
+    if words.count() != 3 || words.word(2).is_empty() {
         return Err(WordsError::Words);
     }
-    match list_word(alloc, words.word(1)) {
-        Ok(list) => Ok(Command::Verify { list }),
-        Err(e) => Err(e),
+    let list = match list_word(alloc, words.word(1)) {
+        Ok(list) => list,
+        Err(e) => return Err(e),
+    };
+    match named(words.word(0), list) {
+        Some(command) => Ok(command),
+        None => Err(WordsError::Words),
     }
 }
 

@@ -47,9 +47,9 @@ flat-append f [] ys = refl
 flat-append f (x ∷ xs) ys = ap (λ l. f x ++ l) (flat-append f xs ys) ∙ sym (append_assoc (f x) (flat_map f xs) (flat_map f ys))
 
 -- one line more of those that may be there
-texts_more : (ls : List (Option Line)) (i : ℕ) (o : Option Line) → i < length ls → get_or ls i None ≡ o → flat_map texts (take (i + 1) ls) ≡ flat_map texts (take i ls) ++ texts o
+texts_more : (ls : List (Option Line)) (i : ℕ) (o : Option Line) → i < length ls → o ≡ get_or ls i o → flat_map texts (take (i + 1) ls) ≡ flat_map texts (take i ls) ++ texts o
 texts_more ls i o within is =
-    ap (flat_map texts) (take_more ls i None within ∙ ap (λ (y : Option Line). take i ls ++ y ∷ []) is) ∙ flat-append texts (take i ls) (o ∷ []) ∙ ap (λ l. flat_map texts (take i ls) ++ l) (append-nil (texts o))
+    ap (flat_map texts) (take_more ls i o within ∙ ap (λ (y : Option Line). take i ls ++ y ∷ []) (sym is)) ∙ flat-append texts (take i ls) (o ∷ []) ∙ ap (λ l. flat_map texts (take i ls) ++ l) (append-nil (texts o))
 
 some_more : (ts : List (List ℕ)) (t : List ℕ) → is_empty (ts ++ t ∷ []) ≡ false
 some_more [] t = refl
@@ -61,19 +61,19 @@ pub record SaidSome (d : ℕ) (ls : List (Option Line)) (i : ℕ) (any : Bool) (
   pub went : Went (Here d) (Exactly (says (flat_map texts (take i ls)))) old new
 
 -- a line was there and was said
-pub some_said : (d : ℕ) (ls : List (Option Line)) (i : ℕ) (l : Line) (was : Bool) (old mid new : World) → i < length ls → get_or ls i None ≡ Some l
+pub some_said : (d : ℕ) (ls : List (Option Line)) (i : ℕ) (o : Option Line) (l : Line) (was : Bool) (old mid new : World) → i < length ls → o ≡ get_or ls i o → o ≡ Some l
     → SaidSome d ls i was old mid → Went (Here d) (Exactly (says (line_text l ∷ []))) mid new → SaidSome d ls (i + 1) true old new
-some_said d ls i l was old mid new within is s one =
-    let more : flat_map texts (take (i + 1) ls) ≡ flat_map texts (take i ls) ++ line_text l ∷ [] = texts_more ls i (Some l) within is in
+some_said d ls i o l was old mid new within is there s one =
+    let more : flat_map texts (take (i + 1) ls) ≡ flat_map texts (take i ls) ++ line_text l ∷ [] = texts_more ls i o within is ∙ ap (λ p. flat_map texts (take i ls) ++ texts p) there in
     record {
       some = sym (ap (λ ts. not (is_empty ts)) more ∙ ap not (some_more (flat_map texts (take i ls)) (line_text l)));
       went = said_as d _ _ more (said_then d (flat_map texts (take i ls)) (line_text l ∷ []) s.went one);
     }
 
 -- no line was there
-pub none_said : (d : ℕ) (ls : List (Option Line)) (i : ℕ) (any : Bool) (old new : World) → i < length ls → get_or ls i None ≡ None → SaidSome d ls i any old new → SaidSome d ls (i + 1) any old new
-none_said d ls i any old new within is s =
-    let more : flat_map texts (take (i + 1) ls) ≡ flat_map texts (take i ls) = texts_more ls i None within is ∙ append-nil (flat_map texts (take i ls)) in
+pub none_said : (d : ℕ) (ls : List (Option Line)) (i : ℕ) (o : Option Line) (any : Bool) (old new : World) → i < length ls → o ≡ get_or ls i o → o ≡ None → SaidSome d ls i any old new → SaidSome d ls (i + 1) any old new
+none_said d ls i o any old new within is gone s =
+    let more : flat_map texts (take (i + 1) ls) ≡ flat_map texts (take i ls) = texts_more ls i o within is ∙ ap (λ p. flat_map texts (take i ls) ++ texts p) gone ∙ append-nil (flat_map texts (take i ls)) in
     record { some = s.some ∙ ap (λ ts. not (is_empty ts)) (sym more); went = said_as d _ _ more s.went }
 
 -- a line that could not be said

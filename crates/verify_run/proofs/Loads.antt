@@ -1,10 +1,9 @@
 -- Loading a list.
-use Rattle.std.proofs.Common.{◌≡◌, inl, inr, ℕ, List, [], sym, subst, append-nil, refl}
-use Rattle.std.specs.Prelude.{Result, Ok, Err, Vec}
+use Rattle.std.proofs.Common.{◌≡◌, ◌⊎◌, inl, inr, ℕ, List, [], sym, subst, append-nil, refl}
+use Rattle.std.specs.Prelude.{Result, Ok, Err, Vec, bytes_eq}
 use Rattle.std.specs.Global.{Global}
-use Rattle.std.specs.FinMap.{get}
+use Rattle.std.specs.List.{IsDistinct}
 use Rattle.bay_core.specs.declared.event.FileInfo.{FileInfo}
-use Rattle.bay_core.specs.Replay.{reads}
 use Rattle.bay_core.specs.World.{World}
 use Rattle.bay_core.proofs.Runs.{went_such}
 use Rattle.file_reading.specs.declared.listed.Content.{Content}
@@ -12,26 +11,28 @@ use Rattle.file_reading.specs.declared.listed.Content.TheVariants.{Bytes, Unlist
 use Rattle.file_reading.specs.declared.listed.ListReadError.{ListReadError}
 use Rattle.file_reading.specs.declared.listed.ListReadError.TheVariants.{DriveFailed as ReadFailed, Memory as ReadMemory}
 use Rattle.file_reading.specs.Reads.{Halted}
-use Rattle.file_reading.specs.Whole.{IsWhole}
 use Rattle.file_reading.specs.Listed.{FileListed, halted_at_device}
 use Rattle.file_reading.proofs.Listings.{listed_looks}
 use Rattle.mhl_writer.specs.declared.values.HashList.{HashList}
-use Rattle.mhl_reader.specs.declared.error.ReadError.TheVariants.{NotYet}
-use Rattle.mhl_writer.specs.ListText.{values_of, list_text, IsCanonical}
+use Rattle.mhl_reader.specs.declared.error.ReadError.{ReadError}
+use Rattle.mhl_reader.specs.declared.error.ReadError.TheVariants.{Memory as NoMemoryRead}
+use Rattle.mhl_reader.specs.Reading.{Reading}
+use Rattle.mhl_reader.specs.Reading.{FirstFault}
+use Rattle.mhl_writer.specs.ListText.{values_of, paths_of}
 use Rattle.verify_run.specs.declared.loading.LoadError.{LoadError}
 use Rattle.verify_run.specs.declared.loading.LoadError.TheVariants.{DriveFailed, Absent, TooLarge, Unreadable, Memory}
-use Rattle.verify_run.specs.Loading.{largest_list, IsNoList, WholeRead, Loaded}
+use Rattle.verify_run.specs.Loading.{largest_list, Loaded}
 
 -- ---- nothing was read
 
 -- a call failed
 pub load_failed : (d : ℕ) (path : List ℕ) (e : ListReadError) (old new : World) → e ≡ ReadFailed → Halted d (halted_at_device d e) old new → Loaded d path (Err DriveFailed) old new
-load_failed d path ReadFailed old new is h = record { went = h.went; cause = λ same. h.cause; honest = λ m L honest. tt }
+load_failed d path ReadFailed old new is h = record { went = h.went; cause = λ same. h.cause; honest = λ m L honest. tt; distinct = tt }
 load_failed d path ReadMemory old new is h = absurd (cc is)
 
 -- memory was wanting
 pub load_wanting : (d : ℕ) (path : List ℕ) (e : ListReadError) (old new : World) → e ≡ ReadMemory → Halted d (halted_at_device d e) old new → Loaded d path (Err Memory) old new
-load_wanting d path ReadMemory old new is h = record { went = h.went; cause = λ same. absurd (cc same); honest = λ m L honest. tt }
+load_wanting d path ReadMemory old new is h = record { went = h.went; cause = λ same. absurd (cc same); honest = λ m L honest. tt; distinct = tt }
 load_wanting d path ReadFailed old new is h = absurd (cc is)
 
 module _ (d : ℕ) (path : List ℕ) (files : List FileInfo) (old new : World) where
@@ -43,6 +44,7 @@ module _ (d : ℕ) (path : List ℕ) (files : List FileInfo) (old new : World) w
         went = went_such (λ L t. (files, record { calls = t.calls; is = t.is; such = inl t.such })) g.went;
         cause = λ same. absurd (cc same);
         honest = g.honest;
+        distinct = tt;
       }
 
   pub list_absent : (content : Content) → content ≡ GoneThen → FileListed largest_list d path files content old new → Loaded d path (Err Absent) old new
@@ -52,6 +54,7 @@ module _ (d : ℕ) (path : List ℕ) (files : List FileInfo) (old new : World) w
         went = went_such (λ L t. (files, record { calls = t.calls; is = t.is; such = inr t.such })) g.went;
         cause = λ same. absurd (cc same);
         honest = g.honest;
+        distinct = tt;
       }
 
   -- it is too large
@@ -62,6 +65,7 @@ module _ (d : ℕ) (path : List ℕ) (files : List FileInfo) (old new : World) w
         went = went_such (λ L t. (files, record { calls = t.calls; is = t.is; such = t.such })) g.went;
         cause = λ same. absurd (cc same);
         honest = g.honest;
+        distinct = tt;
       }
 
   -- ---- the bytes were read
@@ -73,18 +77,21 @@ module _ (d : ℕ) (path : List ℕ) (files : List FileInfo) (old new : World) w
     whole : FileListed largest_list d path files (Bytes bytes) old new
     whole = subst (λ c. FileListed largest_list d path files c old new) is f
 
-    pub list_loaded : (list : HashList) → IsCanonical (values_of list) → bytes.items ≡ list_text (values_of list) → Loaded d path (Ok list) old new
-    list_loaded list canonical same = record {
-      went = went_such (λ L t. (canonical, subst (λ b. WholeRead d path b L) same (files, record { calls = t.calls; is = t.is; such = t.such }))) whole.went;
+    pub list_loaded : (list : HashList) → Reading bytes.items (values_of list) → IsDistinct bytes_eq (paths_of list.entries.items) → Loaded d path (Ok list) old new
+    list_loaded list means distinct = record {
+      went = went_such (λ L t. (text, (files, record { calls = t.calls; is = t.is; such = t.such }), means)) whole.went;
       cause = λ failed. absurd (cc failed);
-      honest = λ m L h. (canonical, subst (λ b. IsWhole largest_list b (get (reads m L d) path)) same (whole.honest m L h));
+      honest = λ m L h. (text, whole.honest m L h, means);
+      distinct = distinct;
     }
 
-    pub list_refused : IsNoList bytes.items → Loaded d path (Err (Unreadable NotYet)) old new
-    list_refused none = record {
-      went = went_such (λ L t. (text, (files, record { calls = t.calls; is = t.is; such = t.such }), none)) whole.went;
+    pub list_refused : (e : ReadError) → (e ≡ NoMemoryRead) ⊎ FirstFault bytes.items e → (e ≡ NoMemoryRead → ⊥) → Loaded d path (Err (Unreadable e)) old new
+    list_refused e (inl wanting) other = absurd (other wanting)
+    list_refused e (inr fault) other = record {
+      went = went_such (λ L t. (text, (files, record { calls = t.calls; is = t.is; such = t.such }), fault)) whole.went;
       cause = λ failed. absurd (cc failed);
-      honest = λ m L h. (text, whole.honest m L h, none);
+      honest = λ m L h. (text, whole.honest m L h, fault);
+      distinct = tt;
     }
 
     pub list_wanting : Loaded d path (Err Memory) old new
@@ -98,6 +105,7 @@ module _ (d : ℕ) (path : List ℕ) (files : List FileInfo) (old new : World) w
       }) whole.went;
       cause = λ failed. absurd (cc failed);
       honest = λ m L h. tt;
+      distinct = tt;
     }
 
 pub loaded_as : (r : Result HashList LoadError) (d : ℕ) (p q : List ℕ) (old new : World) → p ≡ q → Loaded d p r old new → Loaded d q r old new

@@ -1,6 +1,8 @@
 // Loading a list that lies on a drive.
-ghost use Rattle.std.specs.Prelude.{◌≡◌, ◌<◌, ◌≤◌, ℕ, List, Err};
+ghost use Rattle.std.specs.Prelude.{◌≡◌, ◌<◌, ◌≤◌, ℕ, List, Err, IfOk, bytes_eq};
 ghost use Rattle.std.specs.FinMap.{get};
+ghost use Rattle.std.specs.List.{IsDistinct};
+ghost use Rattle.mhl_writer.specs.ListText.{paths_of};
 ghost use Rattle.bay_core.specs.declared.event.Event.{Event};
 ghost use Rattle.bay_core.specs.Map.{Map};
 ghost use Rattle.bay_core.specs.Replay.{Drive, reads};
@@ -34,7 +36,7 @@ pub enum LoadError {
     /// that limit.
     #[error("the list has {len} bytes")]
     TooLarge { len: u64 },
-    /// The bytes are no list that the reader takes; never for want of memory.
+    /// The bytes mean no list, and this is their first fault; never want of memory.
     #[error("the list is unreadable: {0}")]
     Unreadable(ReadError),
     #[error("out of memory")]
@@ -56,14 +58,18 @@ fn load<B: Bay>(alloc: Global, bay: &mut B, d: u32, path: &str) -> Result<HashLi
         Content::Unlisted | Content::Absent => return Err(LoadError::Absent),
         Content::TooLarge { len } => return Err(LoadError::TooLarge { len }),
     };
-    match read_list(alloc, &text) {
-        Ok(list) => Ok(list),
-        Err(ReadError::NotYet) => Err(LoadError::Unreadable(ReadError::NotYet)),
-        Err(ReadError::Memory) => Err(LoadError::Memory),
+    let error = match read_list(alloc, &text) {
+        Ok(list) => return Ok(list),
+        Err(error) => error,
+    };
+    match error {
+        ReadError::Memory => Err(LoadError::Memory),
+        _ => Err(LoadError::Unreadable(error)),
     }
 }
 
-/// Loads the list at a path of a drive: the drive is listed, and the file is read to its end.
+/// Loads the list at a path of a drive: the drive is listed, the file is read to its end, and its bytes are read as a
+/// list (docs/FORMATS.md, "Reading a list").
 pub fn load_list<B: Bay>(
     alloc: Global,
     bay: &mut B,
@@ -76,6 +82,8 @@ pub fn load_list<B: Bay>(
     ensures alone { Went (Only (Drive d)) (LoadCalls d path.now result) (B.world bay.old) (B.world bay.new) }
     ensures cause { result ≡ Err DriveFailed → Rose ((B.world bay.old).faults (Drive d)) ((B.world bay.new).faults (Drive d)) }
     ensures honest { (m : Map) (L : List Event) → Honest (B.world bay.new) d m L → LoadGives (get (reads m L d) path.now) result }
+    // No two entries of a list have the same path.
+    ensures distinct { IfOk result (λ list. IsDistinct bytes_eq (paths_of list.entries.items)) }
 {
     load(alloc, bay, d, path.as_str())
 }

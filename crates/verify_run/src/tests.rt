@@ -109,7 +109,12 @@ fn other_lists_are_refused(rt: HostRuntime) -> Result<(), Fail> {
     assert_eq!(rt; calls(alloc, &bay)?.as_str(), "AL");
     let path = PathText::read(alloc, "half.mhl")?;
     let refused = load_list(alloc, &mut bay, 0, &path);
-    assert!(rt; matches!(refused, Err(LoadError::Unreadable(ReadError::NotYet))));
+    assert!(rt;
+        matches!(
+            refused,
+            Err(LoadError::Unreadable(ReadError::Malformed { at: 272 }))
+        )
+    );
     assert_eq!(rt; calls(alloc, &bay)?.as_str(), "ALLRR");
     bay.fail_call(1)?;
     let unlisted = load_list(alloc, &mut bay, 0, &path);

@@ -1,22 +1,27 @@
 use Rattle.std.proofs.Common.{[], sym, ◌∙◌, ap}
 use Rattle.std.specs.Prelude.{not}
-use Rattle.station_cli.proofs.Rows.{unnot, not_three, name_refused, drive_refused, list_refused, command_is}
+use Rattle.station_cli.proofs.Rows.{not_three, drive_refused, list_refused, row_is}
 use Rattle.station_cli.proofs.words.read_words.Goals as goal
-use Rattle.station_cli.proofs.words.read_words.Goals.{then-count-ne3-via-then-count-ne3, then-count-ne3-via-else-count-ne3+then-ne, then-count-ne3-via-else-count-ne3+else-ne+then-is_empty}
+use Rattle.station_cli.proofs.words.read_words.Goals.{then-count-ne3-via-then-count-ne3, then-count-ne3-via-else-count-ne3+then-is_empty}
 
 pub returns-then-count-ne3 : goal.returns-then-count-ne3
 returns-then-count-ne3 c same = elim c.then-count-ne3.branch [
   | then-count-ne3-via-then-count-ne3 w ↦ not_three c.args.words.now (λ many. w.if-count-ne3.true (c.count.ensures ∙ many))
-  | then-count-ne3-via-else-count-ne3+then-ne w ↦
-      name_refused c.args.words.now w.word.result.now (sym c.count.ensures ∙ w.if-count-ne3.false) (w.word.ensures []) (unnot _ _ w.if-ne.ensures)
-  | then-count-ne3-via-else-count-ne3+else-ne+then-is_empty w ↦
-      drive_refused c.args.words.now w.word-else-ne.result.now (sym c.count.ensures ∙ w.if-count-ne3.false) (w.word-else-ne.ensures []) (ap not (sym w.if-is_empty.ensures))
+  | then-count-ne3-via-else-count-ne3+then-is_empty w ↦
+      drive_refused c.args.words.now w.word.result.now (sym c.count.ensures ∙ w.if-count-ne3.false) (w.word.ensures []) (ap not (sym w.if-is_empty.ensures))
 ]
-
-pub returns-in-Ok : goal.returns-in-Ok
-returns-in-Ok c =
-    command_is c.args.words.now c.word.result.now c.word-2.result.now c.word-else-ne.result.now c.in-Ok.list (sym c.count.ensures ∙ c.if-count-ne3.false)
-    (c.word.ensures []) (c.word-2.ensures []) (c.word-else-ne.ensures []) (unnot _ _ c.if-ne.ensures) c.in-Ok.ensures.1 (ap not (sym c.if-is_empty.ensures)) c.in-Ok.ensures.0
 
 pub returns-in-Err : goal.returns-in-Err
 returns-in-Err c same = list_refused c.args.words.now c.word-2.result.now (sym c.count.ensures ∙ c.if-count-ne3.false) (c.word-2.ensures []) (c.in-Err.ensures same)
+
+pub returns-in-Some : goal.returns-in-Some
+returns-in-Some c =
+    row_is c.args.words.now c.word-3.result.now c.word-2.result.now c.word.result.now c.in-Ok.list (sym c.count.ensures ∙ c.if-count-ne3.false) (c.word-3.ensures []) (c.word-2.ensures []) (c.word.ensures [])
+    c.in-Ok.ensures.1 (ap not (sym c.if-is_empty.ensures)) c.in-Ok.ensures.0
+    ∙ sym c.in-Some.ensures
+
+pub returns-in-None : goal.returns-in-None
+returns-in-None c same =
+    row_is c.args.words.now c.word-3.result.now c.word-2.result.now c.word.result.now c.in-Ok.list (sym c.count.ensures ∙ c.if-count-ne3.false) (c.word-3.ensures []) (c.word-2.ensures []) (c.word.ensures [])
+    c.in-Ok.ensures.1 (ap not (sym c.if-is_empty.ensures)) c.in-Ok.ensures.0
+    ∙ sym c.in-None.ensures

@@ -1,4 +1,8 @@
-use Rattle.std.proofs.Common.{sym, ◌∙◌, inl, inr}
+use Rattle.std.proofs.Common.{◌≡◌, ◌⊎◌, subst, inl, inr}
+use Rattle.mhl_reader.specs.declared.error.ReadError.TheVariants.{Memory as NoMemoryRead}
+use Rattle.mhl_reader.specs.Reading.{FirstFault}
+use Rattle.mhl_writer.specs.ListText.{values_of}
+use Rattle.mhl_reader.specs.Reading.{Reading}
 use Rattle.verify_run.proofs.Loads.{load_failed, load_wanting, list_unlisted, list_absent, list_large, list_loaded, list_refused, list_wanting}
 use Rattle.verify_run.proofs.loading.load.Goals as goal
 
@@ -19,12 +23,13 @@ returns-in-TooLarge g c = list_large _ _ c.in-Ok.found.files.items _ _ c.in-Ok.f
 
 pub returns-in-Ok-read_list : goal.returns-in-Ok-read_list
 returns-in-Ok-read_list g c =
-    list_loaded _ _ c.in-Ok.found.files.items _ _ c.in-Ok.found.content c.in-Bytes.text c.in-Bytes.is c.in-Ok.ensures.read _ c.in-Ok-read_list.ensures.found.0 (sym c.deref.ensures.value ∙ c.in-Ok-read_list.ensures.found.1)
+    list_loaded _ _ c.in-Ok.found.files.items _ _ c.in-Ok.found.content c.in-Bytes.text c.in-Bytes.is c.in-Ok.ensures.read _
+    (subst (λ b. Reading b (values_of c.in-Ok-read_list.list)) c.deref.ensures.value c.in-Ok-read_list.ensures.found) c.in-Ok-read_list.ensures.distinct
 
-pub returns-in-Err-NotYet : goal.returns-in-Err-NotYet
-returns-in-Err-NotYet g c =
-    list_refused _ _ c.in-Ok.found.files.items _ _ c.in-Ok.found.content c.in-Bytes.text c.in-Bytes.is c.in-Ok.ensures.read
-    (λ l canonical is. c.in-Err-NotYet.ensures.refused c.in-Err-NotYet.field-0-is l canonical (c.deref.ensures.value ∙ is))
+pub returns-in-Memory : goal.returns-in-Memory
+returns-in-Memory g c = list_wanting _ _ c.in-Ok.found.files.items _ _ c.in-Ok.found.content c.in-Bytes.text c.in-Bytes.is c.in-Ok.ensures.read
 
 pub returns : goal.returns
-returns g c = list_wanting _ _ c.in-Ok.found.files.items _ _ c.in-Ok.found.content c.in-Bytes.text c.in-Bytes.is c.in-Ok.ensures.read
+returns g c =
+    list_refused _ _ c.in-Ok.found.files.items _ _ c.in-Ok.found.content c.in-Bytes.text c.in-Bytes.is c.in-Ok.ensures.read c.in-Err.error
+    (subst (λ b. (c.in-Err.error ≡ NoMemoryRead) ⊎ FirstFault b c.in-Err.error) c.deref.ensures.value c.in-Err.ensures.fault) c.in_default.not-Memory

@@ -13,3 +13,6 @@ returns-clause-cause g c = (loaded_as _ _ _ _ _ _ c.as_str.ensures.same c.load.e
 
 pub returns-clause-honest : goal.returns-clause-honest
 returns-clause-honest g c = (loaded_as _ _ _ _ _ _ c.as_str.ensures.same c.load.ensures).honest
+
+pub returns-clause-distinct : goal.returns-clause-distinct
+returns-clause-distinct g c = (loaded_as _ _ _ _ _ _ c.as_str.ensures.same c.load.ensures).distinct

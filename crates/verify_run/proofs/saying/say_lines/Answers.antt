@@ -10,8 +10,8 @@ pub loop-line-preserved : goal.loop-line-preserved
 loop-line-preserved g c = λ d.
     elim c.match-line.branch [
       | in-Some+in-Ok w ↦ said_at d c.args.lines.now _ true _ _ _ _ w.any-is (ap (g.B.Bay.world) w.bay-is)
-          (some_said d c.args.lines.now c.loop-line.line-index w.in-Some.line _ _ _ _ c.loop-line-test.true w.in-Some.is (c.loop-line.invariant d) (w.in-Ok.ensures d))
-      | in_default w ↦ said_at d c.args.lines.now _ _ _ _ _ _ w.any-is (ap (g.B.Bay.world) w.bay-is) (none_said d c.args.lines.now c.loop-line.line-index _ _ _ c.loop-line-test.true w.in_default.is (c.loop-line.invariant d))
+          (some_said d c.args.lines.now c.loop-line.line-index c.line-item.result w.in-Some.line _ _ _ _ c.loop-line-test.true c.line-item.is w.in-Some.is (c.loop-line.invariant d) (w.in-Ok.ensures d))
+      | in_default w ↦ said_at d c.args.lines.now _ _ _ _ _ _ w.any-is (ap (g.B.Bay.world) w.bay-is) (none_said d c.args.lines.now c.loop-line.line-index c.line-item.result _ _ _ c.loop-line-test.true c.line-item.is w.in_default.is (c.loop-line.invariant d))
     ]
 
 pub returns-in-Err : goal.returns-in-Err

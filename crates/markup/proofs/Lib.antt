@@ -1,0 +1,10 @@
+pub mod CheckedTexts
+pub mod References
+pub mod Characters
+pub mod Runs
+pub mod Options
+pub mod Names
+pub mod Attributes
+pub mod Pieces
+pub mod Tokens
+pub mod Values
