@@ -1,0 +1,12 @@
+pub mod Reading
+pub mod Comparing
+pub mod Rings
+pub mod Pasts
+pub mod Growing
+pub mod Coming
+pub mod Leaving
+pub mod Passing
+pub mod Parts
+pub mod Beginning
+pub mod Turns
+pub mod Holding

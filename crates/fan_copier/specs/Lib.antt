@@ -1,0 +1,6 @@
+pub mod Reads
+pub mod Ring
+pub mod Standing
+pub mod Copying
+pub mod Turning
+pub mod Passed

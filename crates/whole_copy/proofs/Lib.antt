@@ -1,0 +1,4 @@
+pub mod Ordering
+pub mod Following
+pub mod Turned
+pub mod Attaching
