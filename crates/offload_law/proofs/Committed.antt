@@ -1,5 +1,5 @@
 -- A change that commits leaves the stage before it or the one after it.
-use Rattle.std.proofs.Common.{◌≡◌, ◌≢◌, ◌⊎◌, inl, inr, ℕ, suc, ◌+◌, true, false, List, [], ◌∷◌, ◌++◌, length, get_or, Some, refl, sym, ap, ◌∙◌, subst, arith}
+use Rattle.std.proofs.Common.{◌≡◌, ◌≢◌, ◌⊎◌, inl, inr, ℕ, suc, ◌+◌, ◌≤◌, true, false, List, [], ◌∷◌, ◌++◌, length, get_or, Some, refl, sym, ap, ◌∙◌, subst, arith}
 use Rattle.std.proofs.lemmas.List.{length_push}
 use Rattle.std.proofs.lemmas.Bool.{cases_eq, false≢true}
 use Rattle.bay_core.specs.declared.event.Event.{Event}
@@ -9,6 +9,7 @@ use Rattle.bay_core.specs.Map.{Map, moved, content, overwritten}
 use Rattle.bay_core.specs.Torn.{Torn, TornFile}
 use Rattle.bay_core.specs.Replay.{changed}
 use Rattle.bay_core.specs.Paths.{journal_path, new_path}
+use Rattle.path_text.specs.Moment.{last_moment}
 use Rattle.copy_plan.specs.declared.file.PlannedFile.{PlannedFile}
 use Rattle.copy_plan.specs.Plan.{IsPlan, list_of}
 use Rattle.drive_journal.specs.declared.record.Rec.{Rec}
@@ -30,7 +31,7 @@ use Rattle.offload_law.proofs.Prepared.{journal_keeps}
 pub rises : {o : Offload} {m : Map} {s t : Stage} {e : Event} → Commits o m s e t → progress o.plan t ≡ suc (progress o.plan s)
 rises (publishes drafted) = refl
 rises (opens {recs = recs} {rec = rec} staged) = ap suc (omega (arith, length_push recs rec))
-rises (seals full new) = ap (λ (n : ℕ). suc (suc n)) (sym full)
+rises (seals full new early) = ap (λ (n : ℕ). suc (suc n)) (sym full)
 
 module _ (o : Offload) (plan : IsPlan o.plan) (base : Map) where
   published : (m new : Map) → Renamed m new new_path journal_path → IsDrafted o.plan m → Holds o base Fresh m → Holds o base (Begun []) new
@@ -98,8 +99,8 @@ module _ (o : Offload) (plan : IsPlan o.plan) (base : Map) where
     journal_is : content m journal_path ≡ with_gate staged.gate
     journal_is = content_there m (with_gate staged.gate) staged.stands
 
-  sealed : (m new : Map) → Renamed m new new_path (list_of o.plan) → (recs : List Rec) (finish : ℕ) → length recs ≡ length o.plan.files → get m new_path ≡ Some (plan_list_text o.plan recs finish) → Holds o base (Begun recs) m → Holds o base (Sealed recs finish) new
-  sealed m new to recs finish full text h = record {
+  sealed : (m new : Map) → Renamed m new new_path (list_of o.plan) → (recs : List Rec) (finish : ℕ) → length recs ≡ length o.plan.files → get m new_path ≡ Some (plan_list_text o.plan recs finish) → finish ≤ last_moment → Holds o base (Begun recs) m → Holds o base (Sealed recs finish) new
+  sealed m new to recs finish full text early h = record {
     at = (
       records_same h.at.0
           (to.other journal_path journal_not_new (λ e. not_journal (list_of o.plan) (list_free o.plan plan) (sym e)))
@@ -107,6 +108,7 @@ module _ (o : Offload) (plan : IsPlan o.plan) (base : Map) where
           to.other q (λ e. not_new b.file.path (file_free o.plan plan b.before b.file b.after b.is) (sym b.path ∙ e)) (λ e. (file_clear o.plan plan b.before b.file b.after b.is).differs (sym b.path ∙ e))),
       full,
       to.here (plan_list_text o.plan recs finish) text,
+      early,
     );
     rest = rest_step o.plan (suc (length recs)) (suc (suc (length o.plan.files))) h.rest (omega (arith, full)) (λ q t. to.other q (λ e. t (inl (inl e))) (λ e. t (inr (inr (inr (omega arith, e))))));
   }
@@ -122,9 +124,9 @@ module _ (o : Offload) (plan : IsPlan o.plan) (base : Map) where
       let is = torn_byte (journal_code o.plan recs) staged.gate (record_code rec ++ staged.next_gate ∷ staged.rest) torn2 in
       subst (λ (f : Map). Holds o base (Begun recs) f ⊎ Holds o base (Begun (recs ++ rec ∷ [])) f) (sym torn.2)
       (gate_written m recs rec staged h (get_or torn.0 (length (journal_code o.plan recs)) 0) torn.0 is)
-  committed {m = m} {new = new} (seals {d = d} {ok = done} {recs = recs} {finish = finish} full text) h torn = elim (torn_renamed d done m new new_path (list_of o.plan) torn) [
+  committed {m = m} {new = new} (seals {d = d} {ok = done} {recs = recs} {finish = finish} full text early) h torn = elim (torn_renamed d done m new new_path (list_of o.plan) torn) [
     | inl same ↦ inl (subst (Holds o base (Begun recs)) (sym same) h)
-    | inr to ↦ inr (sealed m new to recs finish full text h)
+    | inr to ↦ inr (sealed m new to recs finish full text early h)
   ]
 
   -- what a read gives afterwards
@@ -136,5 +138,5 @@ module _ (o : Offload) (plan : IsPlan o.plan) (base : Map) where
       (ap (λ (l : List ℕ). overwritten l (length (journal_code o.plan recs)) (1 ∷ [])) (journal_is m recs rec staged h)
       ∙ written_over (journal_code o.plan recs) (staged.gate ∷ (record_code rec ++ staged.next_gate ∷ staged.rest)) (1 ∷ []))
   committed_done {m = m} (opens {ok = false} staged) t h = absurd (false≢true t)
-  committed_done {m = m} (seals {ok = true} {recs = recs} {finish = finish} full text) t h = sealed m (moved m new_path (list_of o.plan)) (moved_renamed m new_path (list_of o.plan)) recs finish full text h
-  committed_done {m = m} (seals {ok = false} full text) t h = absurd (false≢true t)
+  committed_done {m = m} (seals {ok = true} {recs = recs} {finish = finish} full text early) t h = sealed m (moved m new_path (list_of o.plan)) (moved_renamed m new_path (list_of o.plan)) recs finish full text early h
+  committed_done {m = m} (seals {ok = false} full text early) t h = absurd (false≢true t)

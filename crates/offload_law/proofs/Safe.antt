@@ -51,12 +51,12 @@ prepares_change p s (Say line ok) h = absurd h
 failed_commits : {o : Offload} {m : Map} {s t : Stage} {e : Event} → Commits o m s e t → Commits o m s (failed e) t
 failed_commits (publishes drafted) = publishes drafted
 failed_commits (opens staged) = opens staged
-failed_commits (seals full new_is) = seals full new_is
+failed_commits (seals full new_is early) = seals full new_is early
 
 commits_change : {o : Offload} {m : Map} {s t : Stage} {e : Event} → Commits o m s e t → IsTrue (is_change e)
 commits_change (publishes drafted) = refl
 commits_change (opens staged) = refl
-commits_change (seals full new_is) = refl
+commits_change (seals full new_is early) = refl
 
 pub safe : (d : ℕ) (o : Offload) → IsPlan o.plan → (base : Map) → IsSafe (offload d o base)
 safe d o plan base = record {

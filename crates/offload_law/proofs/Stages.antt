@@ -28,7 +28,7 @@ records_same {o = o} {m = m} {new = new} {recs = recs} h e files = record {
 pub at_same : (o : Offload) (s : Stage) (m new : Map) → IsAt o m s → ((q : List ℕ) → Counts o.plan s q → get new q ≡ get m q) → IsAt o new s
 at_same o Fresh m new h e = e journal_path refl ∙ h
 at_same o (Begun recs) m new h e = (records_same h.0 (e journal_path (inl refl)) (λ q b. e q (inr (inr b))), e (list_of o.plan) (inr (inl refl)) ∙ h.1)
-at_same o (Sealed recs finish) m new h e = (records_same h.0 (e journal_path (inl refl)) (λ q b. e q (inr (inr b))), h.1, e (list_of o.plan) (inr (inl refl)) ∙ h.2)
+at_same o (Sealed recs finish) m new h e = (records_same h.0 (e journal_path (inl refl)) (λ q b. e q (inr (inr b))), h.1, e (list_of o.plan) (inr (inl refl)) ∙ h.2, h.3)
 
 journal_no_scratch : IsScratch journal_path → ⊥
 journal_no_scratch (inl e) = journal_not_new e

@@ -33,7 +33,7 @@ AreRecorded card m j files [] = Unit {0}
 AreRecorded card m j [] (r ∷ recs) = ⊥
 AreRecorded card m j (f ∷ files) (r ∷ recs) = (IsTrueRecord j (card_bytes card f) r × (get m f.path ≡ Some (card_bytes card f))) × AreRecorded card m (suc j) files recs
 
--- how far: no journal; a journal with these records; or with all of them, and the list, with this finish
+-- how far: no journal; a journal with these records; or with all of them, and the list, with this finish, a moment
 pub data Stage : Type 0 where
   Fresh : Stage
   Begun : List Rec → Stage
@@ -56,7 +56,7 @@ pub record HasRecords (o : Offload) (m : Map) (recs : List Rec) : Type 0 where
 abbrev pub IsAt : Offload → Map → Stage → Type 0
 IsAt o m Fresh = get m journal_path ≡ None
 IsAt o m (Begun recs) = HasRecords o m recs × (get m (list_of o.plan) ≡ None)
-IsAt o m (Sealed recs finish) = HasRecords o m recs × (length recs ≡ length o.plan.files) × (get m (list_of o.plan) ≡ Some (plan_list_text o.plan recs finish))
+IsAt o m (Sealed recs finish) = HasRecords o m recs × (length recs ≡ length o.plan.files) × (get m (list_of o.plan) ≡ Some (plan_list_text o.plan recs finish)) × (finish ≤ last_moment)
 
 -- a map after so many steps
 pub record IsAfter (o : Offload) (m : Map) (steps : ℕ) : Type 0 where

@@ -1,10 +1,11 @@
 -- The changes of an offload on a drive, as a protocol.
-use Rattle.std.specs.Prelude.{◌≡◌, ◌≢◌, ◌⊎◌, ℕ, ◌<◌, Bool, List, [], ◌∷◌, ◌++◌, length, Some, None}
+use Rattle.std.specs.Prelude.{◌≡◌, ◌≢◌, ◌⊎◌, ℕ, ◌<◌, ◌≤◌, Bool, List, [], ◌∷◌, ◌++◌, length, Some, None}
 use Rattle.std.specs.FinMap.{get}
 use Rattle.bay_core.specs.declared.event.Event.{Event}
 use Rattle.bay_core.specs.declared.event.Event.TheVariants.{Write, Rename, Remove}
 use Rattle.bay_core.specs.Map.{Map}
 use Rattle.bay_core.specs.Paths.{IsScratch, journal_path, new_path}
+use Rattle.path_text.specs.Moment.{last_moment}
 use Rattle.crash_law.specs.Protocol.{Protocol}
 use Rattle.copy_plan.specs.declared.file.PlannedFile.{PlannedFile}
 use Rattle.copy_plan.specs.Plan.{PlanValue, list_of}
@@ -63,7 +64,7 @@ pub record IsStaged (o : Offload) (m : Map) (recs : List Rec) (rec : Rec) : Type
 pub data Commits (o : Offload) (m : Map) : Stage → Event → Stage → Type 0 where
   publishes : {d : ℕ} {ok : Bool} → IsDrafted o.plan m → Commits o m Fresh (Rename d new_path journal_path ok) (Begun [])
   opens : {d : ℕ} {ok : Bool} {recs : List Rec} {rec : Rec} → IsStaged o m recs rec → Commits o m (Begun recs) (Write d journal_path (length (journal_code o.plan recs)) (1 ∷ []) ok) (Begun (recs ++ rec ∷ []))
-  seals : {d : ℕ} {ok : Bool} {recs : List Rec} {finish : ℕ} → length recs ≡ length o.plan.files → get m new_path ≡ Some (plan_list_text o.plan recs finish) → Commits o m (Begun recs) (Rename d new_path (list_of o.plan) ok) (Sealed recs finish)
+  seals : {d : ℕ} {ok : Bool} {recs : List Rec} {finish : ℕ} → length recs ≡ length o.plan.files → get m new_path ≡ Some (plan_list_text o.plan recs finish) → finish ≤ last_moment → Commits o m (Begun recs) (Rename d new_path (list_of o.plan) ok) (Sealed recs finish)
 
 -- the stage is on the map, and the rest is that of the base
 pub record Holds (o : Offload) (base : Map) (s : Stage) (m : Map) : Type 0 where

@@ -11,6 +11,7 @@ use Rattle.bay_core.specs.Went.{AllOn, Only}
 use Rattle.bay_core.proofs.Maps.{insert_here, insert_other}
 use Rattle.crash_law.specs.Protocol.{State, Settled, Preparing, Committing, reached, MayPrepare, prepares, flushes, commits, Leads, read_after}
 use Rattle.crash_law.proofs.Calls.{AreCalls, all_ok, on_read}
+use Rattle.path_text.specs.Moment.{last_moment}
 use Rattle.copy_plan.specs.declared.file.PlannedFile.{PlannedFile}
 use Rattle.copy_plan.specs.Fields.{plan_code}
 use Rattle.copy_plan.specs.Plan.{IsPlan, list_of}
@@ -109,9 +110,9 @@ module _ (d : ℕ) (o : Offload) (plan : IsPlan o.plan) (base : Map) (told : ℕ
       }
 
   -- the list is published whole, where all files are recorded
-  pub list_leads : (m : Map) (x : State (offload d o base)) (recs : List Rec) (finish : ℕ) → MayPrepare x → reached x ≡ Begun recs → progress o.plan (Begun recs) ≤ told → length recs ≡ length o.plan.files → get m new_path ≡ None →
+  pub list_leads : (m : Map) (x : State (offload d o base)) (recs : List Rec) (finish : ℕ) → MayPrepare x → reached x ≡ Begun recs → progress o.plan (Begun recs) ≤ told → length recs ≡ length o.plan.files → get m new_path ≡ None → finish ≤ last_moment →
       Leads (offload d o base) d told m x (all_ok (publish_calls d (list_of o.plan) (plan_list_text o.plan recs finish))) (Settled (Sealed recs finish))
-  list_leads m x recs finish may at owed full no_new = (
+  list_leads m x recs finish may at owed full no_new early = (
     Preparing (reached x),
     prepares refl may (subst (λ (r : Stage). IsFree o.plan r new_path ⊎ ((new_path ≡ journal_path) × IsBehindGate o.plan r 0)) (sym at) (inl (inl (inl refl)))),
     (
@@ -119,7 +120,7 @@ module _ (d : ℕ) (o : Offload) (plan : IsPlan o.plan) (base : Map) (told : ℕ
       flushes,
       subst (λ (r : Stage). Leads (offload d o base) d told (waiting d m (plan_list_text o.plan recs finish) no_new) (Settled r) (Rename d new_path (list_of o.plan) true ∷ Sync d true ∷ []) (Settled (Sealed recs finish))) (sym at) (
         Committing (Begun recs) (Sealed recs finish) true,
-        commits refl owed (seals full (waits d m (plan_list_text o.plan recs finish) no_new)),
+        commits refl owed (seals full (waits d m (plan_list_text o.plan recs finish) no_new) early),
         (Settled (Sealed recs finish), flushes, refl),
       ),
     ),

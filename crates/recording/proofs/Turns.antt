@@ -71,7 +71,7 @@ module _ (D : Copying) (ok : IsCopying D) (d : ℕ) (before : List Event) where
       Came (offload d D.work D.start) d D.start D.stage before all done (all_ok (publish_calls d list text)) (Settled (Sealed recs finish))
   sealed {list = list} {text = text} recs finish t ready all was now =
       let P = offload d D.work D.start in
-      let leads = list_leads d D.work ok.plan D.start (ToldOf D d before) R ready.under_way.state recs finish ready.under_way.free ready.under_way.at ready.told ready.full ready.no_scratch in
+      let leads = list_leads d D.work ok.plan D.start (ToldOf D d before) R ready.under_way.state recs finish ready.under_way.free ready.under_way.at ready.told ready.full ready.no_scratch ready.moment in
       let named = subst (λ (q : List ℕ). Leads P d (ToldOf D d before) R ready.under_way.state (all_ok (publish_calls d q (plan_list_text D.work.plan recs finish))) (Settled (Sealed recs finish))) (sym ready.list_is) leads in
       tried_in P (safe d D.work ok.plan D.start) d (publish_calls d list text) t (publish_are d list text) D.start D.stage before all was now ready.under_way.state (Settled (Sealed recs finish)) ready.under_way.is_in
       (subst (λ (b : List ℕ). Leads P d (ToldOf D d before) R ready.under_way.state (all_ok (publish_calls d list b)) (Settled (Sealed recs finish))) (sym ready.text_is) named)

@@ -8,6 +8,7 @@ use Rattle.bay_core.specs.Paths.{new_path, part_path}
 use Rattle.bay_core.specs.Replay.{Device, Drive, Output, reads}
 use Rattle.bay_core.specs.World.{World, Rose}
 use Rattle.crash_law.specs.Protocol.{State, Settled, reached, MayPrepare, IsIn, Announced}
+use Rattle.path_text.specs.Moment.{last_moment}
 use Rattle.copy_plan.specs.declared.file.PlannedFile.{PlannedFile}
 use Rattle.copy_plan.specs.Fields.{plan_code}
 use Rattle.copy_plan.specs.Plan.{IsPlan, list_of}
@@ -128,7 +129,7 @@ abbrev pub is_live : {A E : Type 0} → Result (Option A) E → Bool
 is_live (Ok o) = is_some o
 is_live (Err e) = false
 
--- every file is recorded and announced, no file waits for its name, and the text is that of the list
+-- every file is recorded and announced, no file waits for its name, the finish is a moment, and the text is that of the list
 pub record ReadyToSeal (D : Copying) (d : ℕ) (L : List Event) (recs : List Rec) (finish : ℕ) (list text : List ℕ) : Type 0 where
   pub under_way : UnderWay D d L recs
   pub told : progress D.work.plan (Begun recs) ≤ ToldOf D d L
@@ -136,6 +137,7 @@ pub record ReadyToSeal (D : Copying) (d : ℕ) (L : List Event) (recs : List Rec
   pub no_scratch : get (reads D.start L d) new_path ≡ None
   pub list_is : list ≡ list_of D.work.plan
   pub text_is : text ≡ plan_list_text D.work.plan recs finish
+  pub moment : finish ≤ last_moment
 
 -- the list was sealed, or a first part of that was done
 pub record Seals (d : ℕ) (list text : List ℕ) (ok : Bool) (old new : World) : Type 0 where

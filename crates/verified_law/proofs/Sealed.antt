@@ -136,13 +136,13 @@ length-sealed_entries kinds [] recs same = refl
 length-sealed_entries kinds (f ∷ files) [] same = absurd (omega (arith, same))
 length-sealed_entries kinds (f ∷ files) (r ∷ recs) same = ap suc (length-sealed_entries kinds files recs (omega (arith, same)))
 
-pub sealed_canonical : (o : Offload) (m : Map) (recs : List Rec) (finish : ℕ) → finish ≤ last_moment → IsAt o m (Sealed recs finish) → IsCanonical (sealed_values o.plan recs finish)
-sealed_canonical o m recs finish early sealed =
+pub sealed_canonical : (o : Offload) (m : Map) (recs : List Rec) (finish : ℕ) → IsAt o m (Sealed recs finish) → IsCanonical (sealed_values o.plan recs finish)
+sealed_canonical o m recs finish sealed =
     let has = sealed.0 in
     let plan = has.holds.plan in
     let p = o.plan in
     record {
-      creator = whole_creator p finish plan early;
+      creator = whole_creator p finish plan sealed.3;
       entries = whole_entries p.kinds o.card m 0 p.files recs plan.kinds plan.inventory.each has.holds.records has.recorded;
       distinct = distinct_entries p.kinds p.files recs plan.inventory.pairs;
       few = omega (arith, length-sealed_entries p.kinds p.files recs sealed.1, plan.inventory.few);

@@ -1,5 +1,5 @@
 -- A verification by the list of a sealed offload is good.
-use Rattle.std.proofs.Common.{◌≡◌, ℕ, suc, ◌≤◌, true, false, Bool, List, [], ◌∷◌, ◌++◌, length, Option, Some, refl, sym, ap, ◌∙◌, subst, arith}
+use Rattle.std.proofs.Common.{◌≡◌, ℕ, suc, true, false, Bool, List, [], ◌∷◌, ◌++◌, length, Option, Some, refl, sym, ap, ◌∙◌, subst, arith}
 use Rattle.std.specs.Prelude.{cond, nat_eq}
 use Rattle.std.specs.List.{AllByRecursion, count_by}
 use Rattle.std.specs.FinMap.{get}
@@ -7,7 +7,6 @@ use Rattle.std.proofs.lemmas.Bool.Decides.{nat_tests}
 use Rattle.std.proofs.lemmas.Slice.Eq.{bytes_eq-Decides}
 use Rattle.markup.proofs.Pieces.{pieces_one, piece_not_empty}
 use Rattle.bay_core.specs.Map.{Map}
-use Rattle.path_text.specs.Moment.{last_moment}
 use Rattle.path_text.specs.Kinds.{has_kind}
 use Rattle.path_text.specs.declared.kinds.Kinds.{Kinds}
 use Rattle.md5.specs.Md5.{md5}
@@ -52,9 +51,9 @@ sealed_after o m after = sealed_stage o m after.stage after.at after.done
 
 -- ---- the text reads as the list
 
-pub sealed_reads : (o : Offload) (m : Map) (recs : List Rec) (finish : ℕ) → finish ≤ last_moment → IsAt o m (Sealed recs finish) → Reading (plan_list_text o.plan recs finish) (sealed_values o.plan recs finish)
+pub sealed_reads : (o : Offload) (m : Map) (recs : List Rec) (finish : ℕ) → IsAt o m (Sealed recs finish) → Reading (plan_list_text o.plan recs finish) (sealed_values o.plan recs finish)
 unfolding plan_list_text
-sealed_reads o m recs finish early sealed = canonical_reads (sealed_values o.plan recs finish) (sealed_canonical o m recs finish early sealed)
+sealed_reads o m recs finish sealed = canonical_reads (sealed_values o.plan recs finish) (sealed_canonical o m recs finish sealed)
 
 -- ---- an entry is good
 
@@ -132,11 +131,11 @@ good_report o m recs finish sealed =
 some_is : (x y : List ℕ) → ◌≡◌ {A = Option (List ℕ)} (Some x) (Some y) → x ≡ y
 some_is x y e = cc
 
-pub sealed_verifies : (o : Offload) (m : Map) (recs : List Rec) (finish : ℕ) (bytes : List ℕ) (list : Values) → finish ≤ last_moment → IsAt o m (Sealed recs finish) → get m (list_of o.plan) ≡ Some bytes → Reading bytes list → IsGood (length o.plan.files) (report_verdict list.entries m (list_of o.plan))
-sealed_verifies o m recs finish bytes list early sealed stands reading =
+pub sealed_verifies : (o : Offload) (m : Map) (recs : List Rec) (finish : ℕ) (bytes : List ℕ) (list : Values) → IsAt o m (Sealed recs finish) → get m (list_of o.plan) ≡ Some bytes → Reading bytes list → IsGood (length o.plan.files) (report_verdict list.entries m (list_of o.plan))
+sealed_verifies o m recs finish bytes list sealed stands reading =
     let text = plan_list_text o.plan recs finish in
     let values = sealed_values o.plan recs finish in
     let same : text ≡ bytes = some_is text bytes (sym sealed.2 ∙ stands) in
-    let reads : Reading bytes values = subst (λ (b : List ℕ). Reading b values) same (sealed_reads o m recs finish early sealed) in
+    let reads : Reading bytes values = subst (λ (b : List ℕ). Reading b values) same (sealed_reads o m recs finish sealed) in
     let one : values ≡ list = one_reading bytes values list pieces_one piece_not_empty reads reading in
     subst (λ (l : Values). IsGood (length o.plan.files) (report_verdict l.entries m (list_of o.plan))) one (good_report o m recs finish sealed)

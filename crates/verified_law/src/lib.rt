@@ -1,10 +1,9 @@
 //! A list that seals an offload verifies on its drive.
 #![tactic(auto)]
 
-ghost use Rattle.std.specs.Prelude.{◌≡◌, ℕ, List, ◌≤◌, suc, Some, length};
+ghost use Rattle.std.specs.Prelude.{◌≡◌, ℕ, List, suc, Some, length};
 ghost use Rattle.std.specs.FinMap.{get};
 ghost use Rattle.bay_core.specs.Map.{Map};
-ghost use Rattle.path_text.specs.Moment.{last_moment};
 ghost use Rattle.mhl_writer.specs.ListText.{Values};
 ghost use Rattle.mhl_reader.specs.Reading.{Reading};
 ghost use Rattle.copy_plan.specs.Plan.{list_of};
@@ -18,11 +17,11 @@ ghost use Rattle.verified_law.specs.Good.{IsGood};
 /// the plan is checked, and none is missing, altered or unchecked.
 pub fn a_sealed_list_verifies()
     // Its text reads as the list of the plan, the records and the finish.
-    ensures reads { (o : Offload) (m : Map) (recs : List Rec) (finish : ℕ) → finish ≤ last_moment → IsAt o m (Sealed recs finish) → Reading (plan_list_text o.plan recs finish) (sealed_values o.plan recs finish) }
+    ensures reads { (o : Offload) (m : Map) (recs : List Rec) (finish : ℕ) → IsAt o m (Sealed recs finish) → Reading (plan_list_text o.plan recs finish) (sealed_values o.plan recs finish) }
     // The report by its entries is good.
     ensures good { (o : Offload) (m : Map) (recs : List Rec) (finish : ℕ) → IsAt o m (Sealed recs finish) → IsGood (length o.plan.files) (report_verdict (sealed_entries o.plan.kinds o.plan.files recs) m (list_of o.plan)) }
     // So is the report by whatever the drive's file of the list's name reads as.
-    ensures verifies { (o : Offload) (m : Map) (recs : List Rec) (finish : ℕ) (bytes : List ℕ) (list : Values) → finish ≤ last_moment → IsAt o m (Sealed recs finish) → get m (list_of o.plan) ≡ Some bytes → Reading bytes list → IsGood (length o.plan.files) (report_verdict list.entries m (list_of o.plan)) }
+    ensures verifies { (o : Offload) (m : Map) (recs : List Rec) (finish : ℕ) (bytes : List ℕ) (list : Values) → IsAt o m (Sealed recs finish) → get m (list_of o.plan) ≡ Some bytes → Reading bytes list → IsGood (length o.plan.files) (report_verdict list.entries m (list_of o.plan)) }
     // A drive after all its steps is so sealed.
     ensures sealed { (o : Offload) (m : Map) → IsAfter o m (suc (suc (length o.plan.files))) → (recs : List Rec) × (finish : ℕ) × IsAt o m (Sealed recs finish) }
 {}
