@@ -6,18 +6,14 @@ set -eu
 here=$(cd "$(dirname "$0")" && pwd)
 program=${PROGRAM:-$here/../crates/whole_copy/out/whole_copy}
 mib=${1:-256} rounds=${2:-9}
-work=$(mktemp -d)
-trap 'rm -rf "$work"' EXIT
+. "$here/timing.sh"
 mkdir "$work/card"
 head -c "$((mib * 1048576))" /dev/urandom > "$work/card/a.mov"
 size=$(stat -c %s "$work/card/a.mov")
 
-TIMEFORMAT='%U %S'
-cpu() { { time "$@" > /dev/null 2>&1; } 2>&1 | awk '{ printf "%.2f\n", $1 + $2 }'; }
 fresh() { rm -rf "$work"/d*; for d in $(seq "$1"); do mkdir "$work/d$d"; done; }
 by_program() { "$program" "$work/card" a.mov "$size" $(for d in $(seq "$1"); do echo "$work/d$d"; done); }
 by_cp() { for d in $(seq "$1"); do cp "$work/card/a.mov" "$work/d$d/a.mov"; done; }
-least() { sort -n "$1" | head -1; }
 
 fresh 1
 by_program 1

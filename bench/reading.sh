@@ -6,8 +6,7 @@ set -eu
 here=$(cd "$(dirname "$0")" && pwd)
 program=${PROGRAM:-$here/../crates/station_cli/out/station_cli}
 mib=${1:-200} rounds=${2:-5}
-work=$(mktemp -d)
-trap 'rm -rf "$work"' EXIT
+. "$here/timing.sh"
 mkdir "$work/card"
 python3 - "$mib" > "$work/card/x.mhl" <<'PROGRAM'
 import sys
@@ -26,12 +25,9 @@ PROGRAM
 bytes=$(stat -c %s "$work/card/x.mhl")
 echo "bytes $bytes"
 
-TIMEFORMAT='%U %S'
-cpu() { { time "$@" > /dev/null 2>&1 || true; } 2>&1 | awk '{ printf "%.2f\n", $1 + $2 }'; }
 by_station() { "$program" print x.mhl "$work/card"; }
 by_xmllint() { xmllint --huge --stream "$work/card/x.mhl"; }
 by_expat() { python3 -c "import sys, xml.parsers.expat as e; e.ParserCreate().ParseFile(open(sys.argv[1], 'rb'))" "$work/card/x.mhl"; }
-least() { sort -n "$1" | head -1; }
 
 by_station || true
 for _ in $(seq "$rounds"); do

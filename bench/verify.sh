@@ -7,8 +7,7 @@ set -eu
 here=$(cd "$(dirname "$0")" && pwd)
 program=${PROGRAM:-$here/../crates/station_cli/out/station_cli}
 rounds=${1:-9} mib=${2:-1100} kinds=${3:-md5}
-work=$(mktemp -d)
-trap 'rm -rf "$work"' EXIT
+. "$here/timing.sh"
 card=$work/card
 mkdir -p "$card/CLIP & SOUND" "$card/DÜRER <1>"
 
@@ -27,11 +26,8 @@ done
 mv "$work/card.mhl" "$card/card.mhl"
 echo "files $made bytes $total"
 
-TIMEFORMAT='%U %S'
-cpu() { { time "$@" > /dev/null; } 2>&1 | awk '{ printf "%.2f\n", $1 + $2 }'; }
 by_station() { "$program" verify card.mhl "$card"; }
 by_md5sum() { find "$card" -type f ! -name card.mhl -print0 | xargs -0 md5sum; }
-least() { sort -n "$1" | head -1; }
 # hashdeep knows MD5 and SHA-1 alone, so it has less to do.
 hashdeep -c md5,sha1 -r "$card" > "$work/known" 2> /dev/null || true
 by_hashdeep() { hashdeep -c md5,sha1 -r -a -k "$work/known" "$card"; }

@@ -96,10 +96,6 @@ part_still d size bytes quiet w part = λ m L h.
     let p = part m b.before b.honest in
     (p.0, ap (λ (n : Map). get n part_path) b.same ∙ p.1, p.2)
 
--- it has the bytes that it had
-pub part_is_still : {On : Device → Type 0} {P : List Event → Type 0} {old new : World} (d : ℕ) (bytes : List ℕ) → ((A : List Event) → AllOn On A → P A → AllQuiet d A) → Went On P old new → PartIs d old bytes → PartIs d new bytes
-part_is_still d bytes quiet w part = λ m L h. let b = earlier d m L quiet w h in ap (λ (n : Map). get n part_path) b.same ∙ part m b.before b.honest
-
 -- there is none, as before
 pub no_part_still : {On : Device → Type 0} {P : List Event → Type 0} {old new : World} (d : ℕ) → ((A : List Event) → AllOn On A → P A → AllQuiet d A) → Went On P old new → NoPart d old → NoPart d new
 no_part_still d quiet w none = λ m L h. let b = earlier d m L quiet w h in ap (λ (n : Map). get n part_path) b.same ∙ none m b.before b.honest

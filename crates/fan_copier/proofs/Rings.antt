@@ -172,16 +172,6 @@ keeps_ready place compare old new before mid after n owns lent out ready there w
   same : (k : ℕ) → is_lent after k ≡ is_lent mid k
   same k = ap (λ (p : PoolState). is_lent p k) wrote
 
--- a place is made ready, and nothing is written
-pub keeps_ready_unwritten : (place compare : ℕ) (old new : List (Option ℕ)) (before mid after : PoolState) → Owns old before → is_lent before compare ≡ true → IsOut old compare → Readies place old new before mid
-    → after ≡ mid → KeepsPool compare old new before after
-keeps_ready_unwritten place compare old new before mid after owns lent out ready is = subst (λ (p : PoolState). KeepsPool compare old new before p) (sym is) (record {
-  owns = ready.owns;
-  sum = ready.sum;
-  spares = λ k lent_too out_too. (ready.still k lent_too, λ such. ap (λ (blocks : List (List ℕ)). slice_index_or blocks k []) ready.blocks);
-  out = λ k lent_too out_too. stays_out place old new before mid k ready ready.fresh lent_too out_too;
-})
-
 -- only the block of the slot for comparing is written
 pub keeps_compare : (compare : ℕ) (ring : List (Option ℕ)) (before after : PoolState) → Owns ring before → is_lent before compare ≡ true → IsOut ring compare → after ≡ with_block before compare (block_at after compare)
     → KeepsPool compare ring ring before after

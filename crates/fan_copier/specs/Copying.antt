@@ -1,5 +1,5 @@
 -- A file's copy between two turns, with the bytes that its reads of the card gave.
-use Rattle.std.specs.Prelude.{◌≡◌, ℕ, ◌*◌, ◌≤◌, min, true, false, List, ◌++◌, length, take, slice_index, Some, None}
+use Rattle.std.specs.Prelude.{◌≡◌, ℕ, ◌*◌, ◌≤◌, min, Bool, true, false, List, ◌++◌, length, take, slice_index, Option, Some, None}
 use Rattle.std.specs.FinMap.{get}
 use Rattle.bay_core.specs.declared.event.Event.{Event}
 use Rattle.bay_core.specs.Map.{Map}
@@ -12,6 +12,30 @@ use Rattle.fan_core.specs.Flags.{has}
 use Rattle.fan_copier.specs.declared.copy.FileCopy.{FileCopy}
 use Rattle.fan_copier.specs.Ring.{cell}
 use Rattle.fan_copier.specs.Standing.{Standing, IsHeld, IsWanted, place, at_place, block_len, block_of}
+
+-- the card whose file is copied
+abbrev pub card_of : FileCopy → ℕ
+card_of copy = copy.source
+
+-- the listed size of the file, in bytes
+abbrev pub size_of : FileCopy → ℕ
+size_of copy = copy.size
+
+-- the drives that were not dropped
+abbrev pub live_of : FileCopy → List Bool
+live_of copy = copy.window.counts.live
+
+-- the drives that keep their part
+abbrev pub kept_of : FileCopy → List Bool
+kept_of copy = copy.kept
+
+-- how many blocks the copy may hold at once
+abbrev pub slots_at_most : FileCopy → ℕ
+slots_at_most copy = copy.window.counts.slots
+
+-- the slots that the copy has, by place
+abbrev pub slots_of : FileCopy → List (Option ℕ)
+slots_of copy = copy.ring.slots
 
 -- where this copy stands
 abbrev pub standing : FileCopy → Standing

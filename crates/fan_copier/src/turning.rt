@@ -1,6 +1,5 @@
 // The turns of a copy.
-ghost use Rattle.std.specs.Prelude.{◌≡◌, ◌≢◌, ℕ, List, ◌++◌, [], ◌∷◌, ◌+◌, ◌*◌, ◌^◌, ◌<◌, ◌≤◌, true, false, is_ok, is_some, length, IfOk, IfNone, IfSome, Some, None, slice_index};
-ghost use Rattle.bay_core.specs.declared.event.Event.{Event};
+ghost use Rattle.std.specs.Prelude.{◌≡◌, ◌≢◌, ℕ, List, ◌++◌, [], ◌∷◌, ◌+◌, ◌*◌, ◌^◌, ◌<◌, ◌≤◌, true, false, is_ok, length, IfOk, IfNone, IfSome, Some, None, slice_index};
 ghost use Rattle.bay_core.specs.Crashes.{Leaves, IsAny, OnlyAt};
 ghost use Rattle.bay_core.specs.Map.{Map, content};
 ghost use Rattle.bay_core.specs.Paths.{part_path};
@@ -13,9 +12,9 @@ ghost use Rattle.digest_set.specs.Triple.{triple};
 ghost use Rattle.fan_core.specs.Flags.{has, HasSome, lowest, count};
 ghost use Rattle.fan_core.specs.Next.{CanRead, waiting};
 ghost use Rattle.fan_copier.specs.Ring.{taken, IsOut, Owns, KeepsPool, GivesAll};
-ghost use Rattle.fan_copier.specs.Standing.{Standing, blocks_of, block_len, block_of};
+ghost use Rattle.fan_copier.specs.Standing.{blocks_of, block_len, block_of};
 ghost use Rattle.fan_copier.specs.Reads.{AreAt, AreOn};
-ghost use Rattle.fan_copier.specs.Copying.{standing, Has, HoldsBlocks, Copying, NoPart, PartBegins};
+ghost use Rattle.fan_copier.specs.Copying.{card_of, size_of, live_of, kept_of, slots_at_most, slots_of, standing, Has, HoldsBlocks, Copying, NoPart, PartBegins};
 ghost use Rattle.fan_copier.specs.Turning.{with_piece, with_read, dropped, ReadCalls, PastCalls, next_block, Touches, AreCopyCalls, Nearer, GoOn, turns_left, Turned, PutStands, WriteCalls, IsChanged};
 ghost use Rattle.fan_copier.specs.declared.turn.Turn.TheVariants.{NoDrive};
 
@@ -54,9 +53,9 @@ impl FileCopy {
         requires slots { (1 ≤ slots) × (slots ≤ 16) }
         requires drives { HasSome drives }
         requires kept { (d : ℕ) → has kept d ≡ true → has drives d ≡ true }
-        ensures is { (result.source ≡ source) × (result.size ≡ size) × (result.window.counts.live ≡ drives) × (result.window.counts.slots ≡ slots) × (result.kept ≡ kept) }
-        ensures owns { (pool : PoolState) → Owns result.ring.slots pool }
-        ensures none { taken result.ring.slots ≡ 0 }
+        ensures is { (card_of result ≡ source) × (size_of result ≡ size) × (live_of result ≡ drives) × (slots_at_most result ≡ slots) × (kept_of result ≡ kept) }
+        ensures owns { (pool : PoolState) → Owns (slots_of result) pool }
+        ensures none { taken (slots_of result) ≡ 0 }
         ensures turns { turns_left (standing result) ≤ (blocks_of size + 1) * (count drives + 1) }
         ensures copying { (pool : PoolState) (w : World) → ((d : ℕ) → has drives d ≡ true → has kept d ≡ false → NoPart d w) → ((d : ℕ) → has kept d ≡ true → PartBegins d size w [])
             → Copying result pool w [] }
@@ -264,21 +263,21 @@ impl FileCopy {
         compare: &Slot,
         path: &PathText,
     ) -> Turn
-        requires source { self.old.source < (B.world bay.old).attached.sources }
-        requires drives { (d : ℕ) → has self.old.window.counts.live d ≡ true → d < (B.world bay.old).attached.drives }
-        requires owns { Owns self.old.ring.slots pool.old }
-        requires free { self.old.window.counts.slots ≤ free_in pool.old.lent + taken self.old.ring.slots }
-        requires compare { (is_lent pool.old compare.now ≡ true) × IsOut self.old.ring.slots compare.now }
-        ensures same { (self.new.source ≡ self.old.source) × (self.new.size ≡ self.old.size) × (self.new.window.counts.slots ≡ self.old.window.counts.slots) }
-        ensures pool { KeepsPool compare.now self.old.ring.slots self.new.ring.slots pool.old pool.new }
-        ensures go_on { GoOn result self.old.window.counts.live self.new.window.counts.live }
+        requires source { card_of self.old < (B.world bay.old).attached.sources }
+        requires drives { (d : ℕ) → has (live_of self.old) d ≡ true → d < (B.world bay.old).attached.drives }
+        requires owns { Owns (slots_of self.old) pool.old }
+        requires free { slots_at_most self.old ≤ free_in pool.old.lent + taken (slots_of self.old) }
+        requires compare { (is_lent pool.old compare.now ≡ true) × IsOut (slots_of self.old) compare.now }
+        ensures same { (card_of self.new ≡ card_of self.old) × (size_of self.new ≡ size_of self.old) × (slots_at_most self.new ≡ slots_at_most self.old) }
+        ensures pool { KeepsPool compare.now (slots_of self.old) (slots_of self.new) pool.old pool.new }
+        ensures go_on { GoOn result (live_of self.old) (live_of self.new) }
         ensures nearer { Nearer result (turns_left (standing self.old)) (turns_left (standing self.new)) }
-        ensures no_drive { result ≡ NoDrive → lowest self.old.window.counts.live ≡ None }
-        ensures idle { lowest self.old.window.counts.live ≡ None → (result ≡ NoDrive) × (B.world bay.new ≡ B.world bay.old) × (pool.new ≡ pool.old) × (self.new ≡ self.old) }
-        ensures touches { Went (Touches self.old.source self.old.window.counts.live) (AreCopyCalls self.old.source path.now) (B.world bay.old) (B.world bay.new) }
+        ensures no_drive { result ≡ NoDrive → lowest (live_of self.old) ≡ None }
+        ensures idle { lowest (live_of self.old) ≡ None → (result ≡ NoDrive) × (B.world bay.new ≡ B.world bay.old) × (pool.new ≡ pool.old) × (self.new ≡ self.old) }
+        ensures touches { Went (Touches (card_of self.old) (live_of self.old)) (AreCopyCalls (card_of self.old) path.now) (B.world bay.old) (B.world bay.new) }
         ensures leaves { (d : ℕ) → Leaves d IsAny (OnlyAt (λ q. q ≡ part_path)) (B.world bay.old) (B.world bay.new) }
-        ensures steady { (m : Map) → Steady (B.world bay.old) self.old.source m → length (content m path.now) ≡ self.old.size → IsChanged result → ⊥ }
-        ensures turned { (d : ℕ) → has self.old.window.counts.live d ≡ true → (bytes : List ℕ) → Copying self.old pool.old (B.world bay.old) bytes
+        ensures steady { (m : Map) → Steady (B.world bay.old) (card_of self.old) m → length (content m path.now) ≡ size_of self.old → IsChanged result → ⊥ }
+        ensures turned { (d : ℕ) → has (live_of self.old) d ≡ true → (bytes : List ℕ) → Copying self.old pool.old (B.world bay.old) bytes
             → Turned path.now self.old self.new pool.new (B.world bay.old) (B.world bay.new) bytes result }
     {
         if self.window.live().lowest().is_none() {
@@ -295,15 +294,15 @@ impl FileCopy {
 
     /// The drives that were not dropped.
     pub fn live(&self) -> Drives
-        ensures { result ≡ self.now.window.counts.live }
+        ensures { result ≡ live_of self.now }
     {
         self.window.live()
     }
 
     /// Ends the copy, and gives its slots back.
     pub fn end(self, pool: &mut Pool)
-        requires { Owns self.ring.slots pool.old }
-        ensures { GivesAll self.ring.slots pool.old pool.new }
+        requires { Owns (slots_of self) pool.old }
+        ensures { GivesAll (slots_of self) pool.old pool.new }
     {
         let mut ring = self.ring;
         ring.give_back(pool);

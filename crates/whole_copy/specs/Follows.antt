@@ -12,7 +12,7 @@ use Rattle.fan_copier.specs.declared.copy.FileCopy.{FileCopy}
 use Rattle.fan_copier.specs.declared.turn.Turn.{Turn}
 use Rattle.fan_copier.specs.declared.turn.Turn.TheVariants.{Going, Dropped, Copied, SourceFailed, Changed, NoDrive}
 use Rattle.fan_copier.specs.Standing.{Standing}
-use Rattle.fan_copier.specs.Copying.{standing, PartIs}
+use Rattle.fan_copier.specs.Copying.{card_of, size_of, live_of, standing, PartIs}
 use Rattle.fan_copier.specs.Passed.{card_calls}
 use Rattle.fan_copier.specs.Turning.{doing, StandsAfter, TurnCalls, Touches, turns_left}
 
@@ -68,10 +68,10 @@ InOrder s path at (e ∷ L) = (asked : ℕ) × (got : Option (List ℕ)) × (e �
 
 -- what a copy came to, where these are the bytes that the card gave
 abbrev pub EndedAs : FileCopy → FileCopy → World → World → List ℕ → Turn → Type 0
-EndedAs old new before after bytes (Copied t) = (length bytes ≡ old.size) × (t ≡ triple bytes) × ((d : ℕ) → has new.window.counts.live d ≡ true → PartIs d after bytes)
-EndedAs old new before after bytes SourceFailed = Rose (before.faults (Source old.source)) (after.faults (Source old.source))
-EndedAs old new before after bytes (Changed listed read) = (listed ≡ old.size) × (read ≢ old.size) × (length bytes ≡ read)
-EndedAs old new before after bytes NoDrive = lowest new.window.counts.live ≡ None
+EndedAs old new before after bytes (Copied t) = (length bytes ≡ size_of old) × (t ≡ triple bytes) × ((d : ℕ) → has (live_of new) d ≡ true → PartIs d after bytes)
+EndedAs old new before after bytes SourceFailed = Rose (before.faults (Source (card_of old))) (after.faults (Source (card_of old)))
+EndedAs old new before after bytes (Changed listed read) = (listed ≡ size_of old) × (read ≢ size_of old) × (length bytes ≡ read)
+EndedAs old new before after bytes NoDrive = lowest (live_of new) ≡ None
 EndedAs old new before after bytes result = ⊥
 
 -- what the file of a steady card is after a copy, where these are the bytes that it gave
@@ -83,12 +83,12 @@ CardIs file bytes result = Unit {0}
 -- dropped failed; what it came to; and a steady card's file is what was copied
 pub record CopyEnded (path : List ℕ) (old new : FileCopy) (before after : World) (result : Turn) : Type 0 where
   pub turns : List OneTurn
-  pub calls : Went (Touches old.source old.window.counts.live) (FollowsWindow old.source path old.size (standing old) [] turns) before after
+  pub calls : Went (Touches (card_of old) (live_of old)) (FollowsWindow (card_of old) path (size_of old) (standing old) [] turns) before after
   pub few : length turns ≤ turns_left (standing old)
   pub ends : EndsIn turns result
   pub stands : standing new ≡ stands_after (standing old) turns
-  pub once : Went (Touches old.source old.window.counts.live) (λ L. InOrder old.source path 0 (card_calls old.source L)) before after
-  pub still : (d : ℕ) → has new.window.counts.live d ≡ true → has old.window.counts.live d ≡ true
-  pub dropped : (d : ℕ) → has old.window.counts.live d ≡ true → has new.window.counts.live d ≡ false → Rose (before.faults (Drive d)) (after.faults (Drive d))
+  pub once : Went (Touches (card_of old) (live_of old)) (λ L. InOrder (card_of old) path 0 (card_calls (card_of old) L)) before after
+  pub still : (d : ℕ) → has (live_of new) d ≡ true → has (live_of old) d ≡ true
+  pub dropped : (d : ℕ) → has (live_of old) d ≡ true → has (live_of new) d ≡ false → Rose (before.faults (Drive d)) (after.faults (Drive d))
   pub came : EndedAs old new before after (given_in turns) result
-  pub card : (m : Map) → Steady before old.source m → CardIs (content m path) (given_in turns) result
+  pub card : (m : Map) → Steady before (card_of old) m → CardIs (content m path) (given_in turns) result

@@ -1,16 +1,14 @@
 // A copy by the words of a command line.
-ghost use Rattle.std.specs.Prelude.{◌≡◌, ℕ, List, ◌<◌, ◌≤◌, ◌^◌, true, length, None, IfOk, OnErr};
-ghost use Rattle.bay_core.specs.declared.event.Event.{Event};
+ghost use Rattle.std.specs.Prelude.{◌≡◌, ℕ, ◌<◌, ◌≤◌, true, length, None, IfOk};
 ghost use Rattle.bay_core.specs.World.{World};
 ghost use Rattle.fan_core.specs.Flags.{has, HasSome};
 
 use crate::copying::copy_whole;
 use bay_core::Bay;
 use block_pool::Pool;
-use digest_set::{Triple, hex_into};
 use fan_copier::{FileCopy, Turn};
 use fan_core::Drives;
-use path_text::{PathText, Scratch};
+use path_text::PathText;
 use std::alloc::Global;
 
 /// The blocks that a copy may hold.
