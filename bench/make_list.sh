@@ -9,6 +9,7 @@ now=$(date -u +%Y-%m-%dT%H:%M:%SZ)
 
 escaped() { sed 's/&/\&amp;/g; s/</\&lt;/g; s/>/\&gt;/g'; }
 wanted() { case $kinds in *" $1 "*) return 0 ;; *) return 1 ;; esac; }
+if wanted xxh; then xxhsum --version > /dev/null 2>&1 || { echo "make_list.sh: xxhsum is not here" >&2; exit 1; }; fi
 digests() {
     if wanted md5; then md5sum < "$1" | cut -c1-32; else echo -; fi
     if wanted sha1; then sha1sum < "$1" | cut -c1-40; else echo -; fi

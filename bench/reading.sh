@@ -29,7 +29,7 @@ by_station() { "$program" print x.mhl "$work/card"; }
 by_xmllint() { xmllint --huge --stream "$work/card/x.mhl"; }
 by_expat() { python3 -c "import sys, xml.parsers.expat as e; e.ParserCreate().ParseFile(open(sys.argv[1], 'rb'))" "$work/card/x.mhl"; }
 
-by_station || true
+by_station || [ $? = 7 ]
 for _ in $(seq "$rounds"); do
     cpu by_station >> "$work/station"
     cpu by_xmllint >> "$work/xmllint"

@@ -32,7 +32,8 @@ by_md5sum() { find "$card" -type f ! -name card.mhl -print0 | xargs -0 md5sum; }
 hashdeep -c md5,sha1 -r "$card" > "$work/known" 2> /dev/null || true
 by_hashdeep() { hashdeep -c md5,sha1 -r -a -k "$work/known" "$card"; }
 
-by_station | tail -1
+by_station > "$work/said" || { tail -1 "$work/said"; exit 1; }
+tail -1 "$work/said"
 for _ in $(seq "$rounds"); do
     cpu by_station >> "$work/station"
     cpu by_md5sum >> "$work/md5sum"
