@@ -14,7 +14,7 @@ use Rattle.bay_core.specs.Map.{Map, Dates}
 use Rattle.bay_core.specs.Replay.{Device, Source, Drive, Attaching, Output, Clock, Picker, device_of, is_on, calls_on, changed, undated, replayed, redated, reads, dated}
 use Rattle.bay_core.specs.World.{World, Honest}
 use Rattle.bay_core.specs.Went.{Went, Only, Called, Ran, ReadCall, ListCall, say_call}
-use Rattle.bay_core.specs.Looks.{Here, Exactly, says, read_call, piece, given, Tiles, is_look, Looks, is_change, NoChange, is_failure, AtMost, Stops, Caused, Stopped, line_of, said}
+use Rattle.bay_core.specs.Looks.{Here, Exactly, says, read_call, piece, given, Tiles, is_look, Looks, is_change, is_effect, IsUntouched, is_failure, AtMost, Stops, Caused, Stopped, line_of, said}
 use Rattle.bay_core.proofs.Runs.{went_then, went_such, went_on, went_none, rose_since, told_since, all_ran}
 use Rattle.bay_core.proofs.Replays.{reads-append, dated-append}
 use Rattle.bay_core.proofs.Honesty.{honest_before}
@@ -196,45 +196,62 @@ kept_dates t (Write n path at bytes ok) h = absurd (cc h)
 kept_dates t (Rename n from to ok) h = absurd (cc h)
 kept_dates t (Remove n path ok) h = absurd (cc h)
 
-kept_replay : (R : Map) (A : List Event) (d : ℕ) → NoChange A → replayed R (calls_on d A) ≡ R
-unfolding NoChange
-kept_replay R [] d a = refl
-kept_replay R (e ∷ A) d a =
-    elim (is_on d (device_of e)) as (λ b. replayed R (cond b (e ∷ calls_on d A) (calls_on d A)) ≡ R) [
-      | true ↦ ap (λ r. replayed r (calls_on d A)) (kept R e a.0) ∙ kept_replay R A d a.1
-      | false ↦ kept_replay R A d a.1
-    ]
+-- what is no effect is no change
+no_change : (e : Event) → is_effect e ≡ false → is_change e ≡ false
+no_change (AttachSource n place) h = refl
+no_change (AttachDrive n place) h = refl
+no_change (AttachFailed place) h = refl
+no_change (SourceList n got) h = refl
+no_change (SourceRead n path at want got) h = refl
+no_change (DriveList n got) h = refl
+no_change (DriveRead n path at want got) h = refl
+no_change (Sync n ok) h = refl
+no_change (Moment n) h = refl
+no_change (Pick n) h = refl
+no_change (Say line ok) h = refl
+no_change (Write n path at bytes ok) h = absurd (cc h)
+no_change (Rename n from to ok) h = absurd (cc h)
+no_change (Remove n path ok) h = absurd (cc h)
 
-kept_redate : (t : Dates) (A : List Event) (d : ℕ) → NoChange A → redated t (calls_on d A) ≡ t
-unfolding NoChange
-kept_redate t [] d a = refl
-kept_redate t (e ∷ A) d a =
-    elim (is_on d (device_of e)) as (λ b. redated t (cond b (e ∷ calls_on d A) (calls_on d A)) ≡ t) [
-      | true ↦ ap (λ r. redated r (calls_on d A)) (kept_dates t e a.0) ∙ kept_redate t A d a.1
-      | false ↦ kept_redate t A d a.1
-    ]
+-- calls among which is no effect leave a map, and the dates, as they were
+pub untouched_replay : (R : Map) (A : List Event) → IsUntouched A → replayed R A ≡ R
+unfolding IsUntouched
+untouched_replay R [] a = refl
+untouched_replay R (e ∷ A) a = ap (λ r. replayed r A) (kept R e (no_change e a.0)) ∙ untouched_replay R A a.1
+
+untouched_redate : (t : Dates) (A : List Event) → IsUntouched A → redated t A ≡ t
+unfolding IsUntouched
+untouched_redate t [] a = refl
+untouched_redate t (e ∷ A) a = ap (λ r. redated r A) (kept_dates t e (no_change e a.0)) ∙ untouched_redate t A a.1
+
+-- so are those of them that are on one drive
+pub untouched_on : (d : ℕ) (A : List Event) → IsUntouched A → IsUntouched (calls_on d A)
+unfolding IsUntouched
+untouched_on d [] a = tt
+untouched_on d (e ∷ A) a =
+    elim (is_on d (device_of e)) as (λ b. IsUntouched (cond b (e ∷ calls_on d A) (calls_on d A))) [ true ↦ (a.0, untouched_on d A a.1) | false ↦ untouched_on d A a.1 ]
 
 -- calls that change nothing leave a drive as it was
-pub reads_kept : (m : Map) (L A : List Event) (d : ℕ) → NoChange A → reads m (L ++ A) d ≡ reads m L d
-reads_kept m L A d none = reads-append m L A d ∙ kept_replay (reads m L d) A d none
+pub reads_kept : (m : Map) (L A : List Event) (d : ℕ) → IsUntouched A → reads m (L ++ A) d ≡ reads m L d
+reads_kept m L A d none = reads-append m L A d ∙ untouched_replay (reads m L d) (calls_on d A) (untouched_on d A none)
 
-pub dated_kept : (t : Dates) (L A : List Event) (d : ℕ) → NoChange A → dated t (L ++ A) d ≡ dated t L d
-dated_kept t L A d none = dated-append t L A d ∙ kept_redate (dated t L d) A d none
+pub dated_kept : (t : Dates) (L A : List Event) (d : ℕ) → IsUntouched A → dated t (L ++ A) d ≡ dated t L d
+dated_kept t L A d none = dated-append t L A d ∙ untouched_redate (dated t L d) (calls_on d A) (untouched_on d A none)
 
-pub no_change_append : (A B : List Event) → NoChange A → NoChange B → NoChange (A ++ B)
-unfolding NoChange
-no_change_append [] B a b = b
-no_change_append (e ∷ A) B a b = (a.0, no_change_append A B a.1 b)
+pub untouched_append : (A B : List Event) → IsUntouched A → IsUntouched B → IsUntouched (A ++ B)
+unfolding IsUntouched
+untouched_append [] B a b = b
+untouched_append (e ∷ A) B a b = (a.0, untouched_append A B a.1 b)
 
-pub no_change_none : NoChange []
-unfolding NoChange
-no_change_none = tt
+pub untouched_none : IsUntouched []
+unfolding IsUntouched
+untouched_none = tt
 
-pub no_change_one : (e : Event) → is_change e ≡ false → NoChange (e ∷ [])
-unfolding NoChange
-no_change_one e h = (h, tt)
+pub untouched_one : (e : Event) → is_effect e ≡ false → IsUntouched (e ∷ [])
+unfolding IsUntouched
+untouched_one e h = (h, tt)
 
-look_keeps : (e : Event) → is_look e ≡ true → is_change e ≡ false
+look_keeps : (e : Event) → is_look e ≡ true → is_effect e ≡ false
 look_keeps (AttachSource n place) h = refl
 look_keeps (AttachDrive n place) h = refl
 look_keeps (AttachFailed place) h = refl
@@ -242,7 +259,7 @@ look_keeps (SourceList n got) h = refl
 look_keeps (SourceRead n path at want got) h = refl
 look_keeps (DriveList n got) h = refl
 look_keeps (DriveRead n path at want got) h = refl
-look_keeps (Sync n ok) h = refl
+look_keeps (Sync n ok) h = absurd (cc h)
 look_keeps (Moment n) h = refl
 look_keeps (Pick n) h = refl
 look_keeps (Say line ok) h = refl
@@ -250,7 +267,7 @@ look_keeps (Write n path at bytes ok) h = absurd (cc h)
 look_keeps (Rename n from to ok) h = absurd (cc h)
 look_keeps (Remove n path ok) h = absurd (cc h)
 
-failure_keeps : (x : Device) (e : Event) → is_failure x e ≡ true → is_change e ≡ false
+failure_keeps : (x : Device) (e : Event) → is_failure x e ≡ true → is_effect e ≡ false
 failure_keeps x (AttachSource n place) h = refl
 failure_keeps x (AttachDrive n place) h = refl
 failure_keeps x (AttachFailed place) h = refl
@@ -258,43 +275,48 @@ failure_keeps x (SourceList n got) h = refl
 failure_keeps x (SourceRead n path at want got) h = refl
 failure_keeps x (DriveList n got) h = refl
 failure_keeps x (DriveRead n path at want got) h = refl
-failure_keeps x (Sync n ok) h = refl
 failure_keeps x (Moment n) h = refl
 failure_keeps x (Pick n) h = refl
 failure_keeps x (Say line ok) h = refl
 failure_keeps (Source s) (Write n path at bytes ok) h = absurd (cc h)
+failure_keeps (Source s) (Sync n ok) h = absurd (cc h)
 failure_keeps (Source s) (Rename n from to ok) h = absurd (cc h)
 failure_keeps (Source s) (Remove n path ok) h = absurd (cc h)
 failure_keeps (Drive d) (Write n path at bytes ok) h = absurd (cc h)
+failure_keeps (Drive d) (Sync n ok) h = absurd (cc h)
 failure_keeps (Drive d) (Rename n from to ok) h = absurd (cc h)
 failure_keeps (Drive d) (Remove n path ok) h = absurd (cc h)
 failure_keeps Attaching (Write n path at bytes ok) h = absurd (cc h)
+failure_keeps Attaching (Sync n ok) h = absurd (cc h)
 failure_keeps Attaching (Rename n from to ok) h = absurd (cc h)
 failure_keeps Attaching (Remove n path ok) h = absurd (cc h)
 failure_keeps Output (Write n path at bytes ok) h = absurd (cc h)
+failure_keeps Output (Sync n ok) h = absurd (cc h)
 failure_keeps Output (Rename n from to ok) h = absurd (cc h)
 failure_keeps Output (Remove n path ok) h = absurd (cc h)
 failure_keeps Clock (Write n path at bytes ok) h = absurd (cc h)
+failure_keeps Clock (Sync n ok) h = absurd (cc h)
 failure_keeps Clock (Rename n from to ok) h = absurd (cc h)
 failure_keeps Clock (Remove n path ok) h = absurd (cc h)
 failure_keeps Picker (Write n path at bytes ok) h = absurd (cc h)
+failure_keeps Picker (Sync n ok) h = absurd (cc h)
 failure_keeps Picker (Rename n from to ok) h = absurd (cc h)
 failure_keeps Picker (Remove n path ok) h = absurd (cc h)
 
 -- looks change nothing
-pub looks_keep : (A : List Event) → Looks A → NoChange A
-unfolding Looks NoChange
+pub looks_keep : (A : List Event) → Looks A → IsUntouched A
+unfolding Looks IsUntouched
 looks_keep [] a = tt
 looks_keep (e ∷ A) a = (look_keeps e a.0, looks_keep A a.1)
 
-at_most_keeps : (at : Option Device) (L : List Event) → AtMost at L → NoChange L
-at_most_keeps None L is = subst NoChange (sym is) no_change_none
-at_most_keeps (Some x) L (inl is) = subst NoChange (sym is) no_change_none
-at_most_keeps (Some x) L (inr (e, is, failed)) = subst NoChange (sym is) (no_change_one e (failure_keeps x e failed))
+at_most_keeps : (at : Option Device) (L : List Event) → AtMost at L → IsUntouched L
+at_most_keeps None L is = subst IsUntouched (sym is) untouched_none
+at_most_keeps (Some x) L (inl is) = subst IsUntouched (sym is) untouched_none
+at_most_keeps (Some x) L (inr (e, is, failed)) = subst IsUntouched (sym is) (untouched_one e (failure_keeps x e failed))
 
 -- looks that stopped change nothing
-pub stops_keep : (at : Option Device) (L : List Event) → Stops at L → NoChange L
-stops_keep at L s = subst NoChange (sym s.is) (no_change_append s.looks s.last (looks_keep s.looks s.answered) (at_most_keeps at s.last s.failed))
+pub stops_keep : (at : Option Device) (L : List Event) → Stops at L → IsUntouched L
+stops_keep at L s = subst IsUntouched (sym s.is) (untouched_append s.looks s.last (looks_keep s.looks s.answered) (at_most_keeps at s.last s.failed))
 
 -- looks change nothing on a drive
 pub reads_looked : (m : Map) (L A : List Event) (d : ℕ) → Looks A → reads m (L ++ A) d ≡ reads m L d

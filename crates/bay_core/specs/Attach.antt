@@ -5,9 +5,9 @@ use Rattle.std.specs.FinMap.{get, empty}
 use Rattle.bay_core.specs.declared.event.Event.{Event}
 use Rattle.bay_core.specs.declared.event.Event.TheVariants.{AttachSource, AttachDrive, AttachFailed}
 use Rattle.bay_core.specs.declared.failed.Failed.{Failed as DeviceFailed}
-use Rattle.bay_core.specs.Map.{Map, Dates}
+use Rattle.bay_core.specs.Map.{Map, Dates, AllDated}
 use Rattle.bay_core.specs.Replay.{Device, Source, Drive, Attaching, calls_on, reads, dated}
-use Rattle.bay_core.specs.World.{World, Attached, MadeWith, Rose}
+use Rattle.bay_core.specs.World.{World, Attached, MadeWith, Rose, Steady}
 use Rattle.bay_core.specs.Went.{Made, Only, IsCall, MaySee}
 
 -- the call of an attach of a drive with this answer
@@ -83,13 +83,20 @@ abbrev pub NoLiar : MadeWith → Option Device → Type 0
 NoLiar made None = Unit {0}
 NoLiar made (Some x) = made.may_lie x ≡ false
 
--- Where it is told what the bay was made with: the new device has the files of its place, with the dates that are known of them, unless the
--- device before it may lie; and it is true unless it may lie itself.
-pub record Gives (place : List ℕ) (x : Device) (map : Option Map) (dates : Dates) (is_true : Bool) (old : World) : Type 0 where
-  pub files : (made : MadeWith) (L : List Event) → old.attached.made ≡ Some made → old.events ≡ Some L → NoLiar made (last_from place L) → map ≡ files_at made old.attached L place (last_from place L)
-  pub known : (made : MadeWith) (L : List Event) → old.attached.made ≡ Some made → old.events ≡ Some L → NoLiar made (last_from place L)
-      → (q : List ℕ) (t : ℕ) → get (dates_at made old.attached L place (last_from place L)) q ≡ Some t → get dates q ≡ Some t
-  pub truth : (made : MadeWith) → old.attached.made ≡ Some made → made.may_lie x ≡ false → is_true ≡ true
+-- What a new device is given, where it is told what the bay was made with, and these were attached and called before: the files of its
+-- place, with the dates that are known of them, unless the device before it may lie.
+pub record Gives (place : List ℕ) (map : Option Map) (dates : Dates) (a : Attached) (L : List Event) : Type 0 where
+  pub files : (made : MadeWith) → a.made ≡ Some made → NoLiar made (last_from place L) → map ≡ files_at made a L place (last_from place L)
+  pub known : (made : MadeWith) → a.made ≡ Some made → NoLiar made (last_from place L)
+      → (q : List ℕ) (t : ℕ) → get (dates_at made a L place (last_from place L)) q ≡ Some t → get dates q ≡ Some t
+
+-- so it is wherever the calls before are told
+abbrev pub GivesSo : List ℕ → Option Map → Dates → World → Type 0
+GivesSo place map dates old = (L : List Event) → old.events ≡ Some L → Gives place map dates old.attached L
+
+-- a device is true where it is told that it may not lie
+abbrev pub IsTrueUnless : Device → Bool → Attached → Type 0
+IsTrueUnless x is_true a = (made : MadeWith) → a.made ≡ Some made → made.may_lie x ≡ false → is_true ≡ true
 
 -- One attach of a drive: one call, no other device's count changed, and no call before it was on a drive that was not yet attached.
 pub record Attaches (place : List ℕ) (result : Result ℕ DeviceFailed) (old new : World) : Type 0 where
@@ -99,13 +106,16 @@ pub record Attaches (place : List ℕ) (result : Result ℕ DeviceFailed) (old n
   pub numbered : Numbered result old.attached new.attached
   pub unused : (L : List Event) → old.events ≡ Some L → (d : ℕ) → old.attached.drives ≤ d → calls_on d L ≡ []
   pub cause : OnErr result (Rose (old.faults Attaching) (new.faults Attaching))
-  pub gives : IfOk result (λ d. Gives place (Drive d) (new.attached.start d) (new.attached.dates d) (new.attached.honest d) old)
+  pub gives : IfOk result (λ d. GivesSo place (new.attached.start d) (new.attached.dates d) old)
+  pub truth : IfOk result (λ d. IsTrueUnless (Drive d) (new.attached.honest d) old.attached)
 
--- One attach of a card: one call, and no other device's count changed.
+-- One attach of a card: one call, and no other device's count changed. A steady card tells a date of each of its files.
 pub record CardAttaches (place : List ℕ) (result : Result ℕ DeviceFailed) (old new : World) : Type 0 where
   pub told : (all : List Event) → new.events ≡ Some all → Made (Only Attaching) (CardAttachCall place result) old.events all
   pub later : old.faults Attaching ≤ new.faults Attaching
   pub others : (x : Device) → (Only Attaching x → ⊥) → new.faults x ≡ old.faults x
   pub numbered : CardNumbered result old.attached new.attached
   pub cause : OnErr result (Rose (old.faults Attaching) (new.faults Attaching))
-  pub gives : IfOk result (λ s. Gives place (Source s) (new.attached.card s) (new.attached.card_dates s) (new.attached.steady s) old)
+  pub gives : IfOk result (λ s. GivesSo place (new.attached.card s) (new.attached.card_dates s) old)
+  pub truth : IfOk result (λ s. IsTrueUnless (Source s) (new.attached.steady s) old.attached)
+  pub dated : IfOk result (λ s. (m : Map) → Steady new s m → AllDated m (new.attached.card_dates s))

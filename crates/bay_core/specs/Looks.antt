@@ -1,8 +1,8 @@
 -- Runs of reads, listings and lines on one drive and the output, and where such a run stops.
-use Rattle.std.specs.Prelude.{◌≡◌, ◌⊎◌, ℕ, ◌+◌, Bool, true, false, List, [], ◌∷◌, ◌++◌, map, length, Option, Some, None, nat_eq}
+use Rattle.std.specs.Prelude.{◌≡◌, ◌⊎◌, ℕ, ◌+◌, Bool, true, false, not, List, [], ◌∷◌, ◌++◌, map, length, Option, Some, None, nat_eq}
 use Rattle.std.specs.List.{flat_map}
 use Rattle.bay_core.specs.declared.event.Event.{Event}
-use Rattle.bay_core.specs.declared.event.Event.TheVariants.{AttachFailed, SourceList, SourceRead, DriveList, DriveRead, Write, Rename, Remove, Say}
+use Rattle.bay_core.specs.declared.event.Event.TheVariants.{AttachFailed, SourceList, SourceRead, DriveList, DriveRead, Write, Sync, Rename, Remove, Say}
 use Rattle.bay_core.specs.declared.event.DriveGot.{DriveGot}
 use Rattle.bay_core.specs.declared.event.DriveGot.TheVariants.{Read, Absent, Failed}
 use Rattle.bay_core.specs.Replay.{Device, Source, Drive, Attaching, Output}
@@ -66,10 +66,32 @@ is_change (Rename d from to ok) = true
 is_change (Remove d path ok) = true
 is_change _ = false
 
--- calls that change nothing
-unfoldable pub NoChange : List Event → Type 0
-NoChange [] = Unit {0}
-NoChange (e ∷ L) = (is_change e ≡ false) × NoChange L
+-- a change, or a barrier, whatever its answer
+abbrev pub is_effect : Event → Bool
+is_effect (Write d path at bytes ok) = true
+is_effect (Sync d ok) = true
+is_effect (Rename d from to ok) = true
+is_effect (Remove d path ok) = true
+is_effect _ = false
+
+-- no change and no barrier is among these calls
+unfoldable pub IsUntouched : List Event → Type 0
+IsUntouched [] = Unit {0}
+IsUntouched (e ∷ L) = (is_effect e ≡ false) × IsUntouched L
+
+-- a call that answered that it failed; the clock and the picker do not fail
+abbrev pub has_failed : Event → Bool
+has_failed (AttachFailed place) = true
+has_failed (SourceList s None) = true
+has_failed (SourceRead s path at want None) = true
+has_failed (DriveList d None) = true
+has_failed (DriveRead d path at want Failed) = true
+has_failed (Write d path at bytes ok) = not ok
+has_failed (Sync d ok) = not ok
+has_failed (Rename d from to ok) = not ok
+has_failed (Remove d path ok) = not ok
+has_failed (Say line ok) = not ok
+has_failed _ = false
 
 -- a call on this device that failed
 abbrev pub is_failure : Device → Event → Bool

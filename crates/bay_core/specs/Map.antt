@@ -64,3 +64,7 @@ pub record Lists (map : Map) (dates : Dates) (files : List FileInfo) : Type 0 wh
   pub once : IsDistinct bytes_eq (paths files)
   pub same : (q : List ℕ) → lookup (bytes_eq q) (sizes files) ≡ option_map length (get map q)
   pub dated : (q : List ℕ) (t : ℕ) → get dates q ≡ Some t → lookup (bytes_eq q) (listed_dates files) ≡ Some t
+
+-- a date is known of each file
+abbrev pub AllDated : Map → Dates → Type 0
+AllDated map dates = (q bytes : List ℕ) → get map q ≡ Some bytes → (t : ℕ) × (get dates q ≡ Some t)

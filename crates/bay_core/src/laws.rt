@@ -7,6 +7,7 @@ ghost use Rattle.bay_core.specs.Replay.{calls_on, reads};
 ghost use Rattle.bay_core.specs.World.{World, Honest};
 ghost use Rattle.bay_core.specs.Attach.{Attaches};
 ghost use Rattle.bay_core.specs.Left.{LeftBy, Left, IsSettled, IsPrefix};
+ghost use Rattle.bay_core.specs.Looks.{IsUntouched};
 
 /// What is left of a drive follows from the calls on that drive alone, and so does what is read of it.
 pub fn left_by_its_calls()
@@ -46,4 +47,14 @@ pub fn settled_when_attached()
 /// The calls up to a moment before another moment are calls up to it.
 pub fn prefix_of_prefix()
     ensures { (A B L : List Event) → IsPrefix A B → IsPrefix B L → IsPrefix A L }
+{}
+
+/// A drive on which no change and no barrier was called stays as it was: it reads as before, just the same maps are left
+/// of it, and it is settled if it was. Where there is none on any drive, there is none on this one.
+pub fn untouched_stays()
+    ensures reads { (m : Map) (L since : List Event) (d : ℕ) → IsUntouched (calls_on d since) → reads m (L ++ since) d ≡ reads m L d }
+    ensures left { (m : Map) (L since : List Event) (d : ℕ) (I : Map) → IsUntouched (calls_on d since) → Left m (L ++ since) d I → Left m L d I }
+    ensures back { (m : Map) (L since : List Event) (d : ℕ) (I : Map) → IsUntouched (calls_on d since) → Left m L d I → Left m (L ++ since) d I }
+    ensures settled { (m : Map) (L since : List Event) (d : ℕ) → IsUntouched (calls_on d since) → IsSettled m L d → IsSettled m (L ++ since) d }
+    ensures each_drive { (L : List Event) (d : ℕ) → IsUntouched L → IsUntouched (calls_on d L) }
 {}

@@ -11,7 +11,7 @@ pub use bay::Bay;
 pub use event::{DriveGot, Event, FileInfo, Listing};
 pub use failed::{DriveFailed, Failed, ListError};
 pub use laws::{
-    left_by_its_calls, left_in_turn, prefix_of_prefix, read_is_left, settled_after_sync,
-    settled_when_attached,
+    left_by_its_calls, left_in_turn, left_within, prefix_of_prefix, read_is_left,
+    settled_after_sync, settled_when_attached, untouched_stays,
 };
 pub use texts::{Bytes, NameText};

@@ -11,7 +11,7 @@ use Rattle.bay_core.specs.declared.failed.Failed.{Failed}
 use Rattle.bay_core.specs.declared.failed.ListError.{ListError}
 use Rattle.bay_core.specs.declared.failed.ListError.TheVariants.{Failed as ListFailed, Memory}
 use Rattle.bay_core.specs.Attach.{Attaches, CardAttaches}
-use Rattle.bay_core.specs.Looks.{is_change, NoChange, is_look, Looks, is_failure, AtMost, Stops}
+use Rattle.bay_core.specs.Looks.{is_change, IsUntouched, is_look, Looks, is_failure, AtMost, Stops}
 use Rattle.bay_core.specs.Map.{Map}
 use Rattle.bay_core.specs.Replay.{Device, Source, Drive, Attaching, Output, Clock, Picker, device_of, reads}
 use Rattle.bay_core.specs.Went.{AllOn, Only, Made, Went, Called, ReadCall, ListCall}
@@ -46,8 +46,8 @@ passive_keeps (Rename n from to ok) t = absurd (false≢true t)
 passive_keeps (Remove n path ok) t = absurd (false≢true t)
 
 -- passive calls change nothing
-pub all_passive_keep : (L : List Event) → AllPassive L → NoChange L
-unfolding AllPassive NoChange
+pub all_passive_keep : (L : List Event) → AllPassive L → IsUntouched L
+unfolding AllPassive IsUntouched
 all_passive_keep [] t = tt
 all_passive_keep (e ∷ L) t = (passive_keeps e t.0, all_passive_keep L t.1)
 
@@ -305,13 +305,13 @@ module _ (P : Protocol) (d : ℕ) where
   rest_step (Pick n) told m t on none = absurd (cc on)
   rest_step (Say line ok) told m t on none = absurd (cc on)
 
-  leads_rest : (L : List Event) (told : ℕ) (m : Map) (t : P.Stage) → AllOn (Only (Drive d)) L → NoChange L → Leads P d told m (Settled t) L (Settled t)
-  unfolding AllOn NoChange
+  leads_rest : (L : List Event) (told : ℕ) (m : Map) (t : P.Stage) → AllOn (Only (Drive d)) L → IsUntouched L → Leads P d told m (Settled t) L (Settled t)
+  unfolding AllOn IsUntouched
   leads_rest [] told m t on none = refl
   leads_rest (e ∷ L) told m t on none = (Settled t, rest_step e told m t on.0 none.0, leads_rest L (told_after P e told) (read_after d m e) t on.1 none.1)
 
   -- a drive at rest stays at rest, at its stage, where nothing was changed on it, whatever barriers there were
-  pub rests_still : {old new : World} → Went (Only (Drive d)) NoChange old new → (start : Map) (s t : P.Stage) (before all : List Event) → old.events ≡ Some before → new.events ≡ Some all →
+  pub rests_still : {old new : World} → Went (Only (Drive d)) IsUntouched old new → (start : Map) (s t : P.Stage) (before all : List Event) → old.events ≡ Some before → new.events ≡ Some all →
       IsIn P d start s before (Settled t) → IsIn P d start s all (Settled t) × (reads start all d ≡ reads start before d) × (Announced P (P.progress s) all ≡ Announced P (P.progress s) before)
   rests_still w start s t before all was now is =
       let since = told_since w before all was now in

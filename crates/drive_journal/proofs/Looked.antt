@@ -4,7 +4,7 @@ use Rattle.std.specs.Prelude.{Option, Some, None, option_map, is_some, Result, O
 use Rattle.std.specs.FinMap.{get}
 use Rattle.bay_core.specs.declared.event.Event.{Event}
 use Rattle.bay_core.specs.declared.event.FileInfo.{FileInfo}
-use Rattle.bay_core.specs.Looks.{NoChange}
+use Rattle.bay_core.specs.Looks.{IsUntouched}
 use Rattle.bay_core.specs.Map.{Map}
 use Rattle.bay_core.specs.Paths.{journal_path}
 use Rattle.bay_core.specs.Replay.{Drive, reads}
@@ -28,7 +28,7 @@ use Rattle.drive_journal.specs.Look.{largest_journal, StateIs, IsListed, IsThere
 
 -- ---- nothing is changed
 
-listed_keeps : (d : ℕ) (files : List FileInfo) (content : Content) {old new : World} → FileListed largest_journal d journal_path files content old new → Went (Only (Drive d)) NoChange old new
+listed_keeps : (d : ℕ) (files : List FileInfo) (content : Content) {old new : World} → FileListed largest_journal d journal_path files content old new → Went (Only (Drive d)) IsUntouched old new
 listed_keeps d files content f = went_such (λ L t. looks_keep L (listed_looks largest_journal d journal_path files content L t)) f.went
 
 -- looks of which none failed
@@ -41,7 +41,7 @@ listed_halted d files content f = record {
 abbrev Answered : ℕ → Result Look LookError → World → World → Type 0
 Answered d result old new = MatchResult result (λ look. Looked d look.listing.items look.state old new) (λ e. LookFails d e old new)
 
-pub look_keeps : (d : ℕ) (result : Result Look LookError) (old new : World) → Answered d result old new → Went (Only (Drive d)) NoChange old new
+pub look_keeps : (d : ℕ) (result : Result Look LookError) (old new : World) → Answered d result old new → Went (Only (Drive d)) IsUntouched old new
 look_keeps d (Ok look) old new a = listed_keeps d look.listing.items a.content a.listed
 look_keeps d (Err (NotAJournal at)) old new a = listed_keeps d a.files a.content a.listed
 look_keeps d (Err DriveFailed) old new a = went_such (stops_keep (Some (Drive d))) a.went

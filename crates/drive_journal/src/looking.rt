@@ -2,7 +2,7 @@
 ghost use Rattle.std.specs.Prelude.{◌≡◌, ◌<◌, ℕ, List, length, Some, Err, MatchResult};
 ghost use Rattle.std.specs.FinMap.{get};
 ghost use Rattle.bay_core.specs.declared.event.Event.{Event};
-ghost use Rattle.bay_core.specs.Looks.{NoChange};
+ghost use Rattle.bay_core.specs.Looks.{IsUntouched};
 ghost use Rattle.bay_core.specs.Map.{Map};
 ghost use Rattle.bay_core.specs.Paths.{journal_path};
 ghost use Rattle.bay_core.specs.Replay.{Drive, reads};
@@ -107,7 +107,7 @@ pub fn look<B: Bay>(alloc: Global, bay: &mut B, d: u32) -> Result<Look, LookErro
     requires { d < (B.world bay.old).attached.drives }
     ensures looked { MatchResult result (λ look. Looked d look.listing.items look.state (B.world bay.old) (B.world bay.new)) (λ e. LookFails d e (B.world bay.old) (B.world bay.new)) }
     // Nothing but the drive is called, and nothing is changed, whatever the answer.
-    ensures went { Went (Only (Drive d)) NoChange (B.world bay.old) (B.world bay.new) }
+    ensures went { Went (Only (Drive d)) IsUntouched (B.world bay.old) (B.world bay.new) }
     ensures cause { result ≡ Err DriveFailed → Rose ((B.world bay.old).faults (Drive d)) ((B.world bay.new).faults (Drive d)) }
     // What an honest drive has.
     ensures honest { (m : Map) (L : List Event) → Honest (B.world bay.new) d m L → MatchResult result (λ look. StateIs (IsThereIn (reads m L d)) (get (reads m L d) journal_path) look.state) (HonestFails (reads m L d)) }

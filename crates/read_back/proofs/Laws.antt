@@ -8,7 +8,7 @@ use Rattle.bay_core.specs.declared.event.DriveGot.TheVariants.{Failed}
 use Rattle.bay_core.specs.Map.{Map}
 use Rattle.bay_core.specs.Replay.{Drive, reads}
 use Rattle.bay_core.specs.World.{World, Honest}
-use Rattle.bay_core.specs.Looks.{read_call, NoChange, Stops}
+use Rattle.bay_core.specs.Looks.{read_call, IsUntouched, Stops}
 use Rattle.bay_core.proofs.Runs.{went_such, told_since}
 use Rattle.bay_core.proofs.Honesty.{honest_before}
 use Rattle.bay_core.proofs.Looking.{tiles_look, one_look, read_looks, looks_append, looks_keep, stops_keep, reads_kept}
@@ -32,12 +32,12 @@ failed_stops d path size bytes calls p = record {
 pub back_halted : (d : ℕ) (path : List ℕ) (size : ℕ) (t : Triple) (old new : World) → ReadBack d path size t (Err DriveFailed) old new → Halted d (Some (Drive d)) old new
 back_halted d path size t old new r = record { went = went_such (λ L p. failed_stops d path size r.bytes L p) r.went; cause = r.cause refl }
 
-then_keeps : (d : ℕ) (path : List ℕ) (size : ℕ) (bytes : List ℕ) (want : ℕ) (got : Option (List ℕ)) (calls : List Event) → PiecesThen d path size bytes want got calls → NoChange calls
+then_keeps : (d : ℕ) (path : List ℕ) (size : ℕ) (bytes : List ℕ) (want : ℕ) (got : Option (List ℕ)) (calls : List Event) → PiecesThen d path size bytes want got calls → IsUntouched calls
 then_keeps d path size bytes want got calls p =
-    subst NoChange (sym p.is) (looks_keep _ (looks_append p.first (read_call d path (length bytes) want got ∷ []) (tiles_look d path 0 p.first p.pieces.tiles) (one_look _ (read_looks d path (length bytes) want got))))
+    subst IsUntouched (sym p.is) (looks_keep _ (looks_append p.first (read_call d path (length bytes) want got ∷ []) (tiles_look d path 0 p.first p.pieces.tiles) (one_look _ (read_looks d path (length bytes) want got))))
 
 -- the calls change nothing
-pub back_keeps : (d : ℕ) (path : List ℕ) (size : ℕ) (t : Triple) (result : Result Unit ReadBackError) (bytes : List ℕ) (calls : List Event) → ReadBackCalls d path size t result bytes calls → NoChange calls
+pub back_keeps : (d : ℕ) (path : List ℕ) (size : ℕ) (t : Triple) (result : Result Unit ReadBackError) (bytes : List ℕ) (calls : List Event) → ReadBackCalls d path size t result bytes calls → IsUntouched calls
 back_keeps d path size t (Ok done) bytes calls c = then_keeps d path size bytes 1 (Some []) calls c.0.1
 back_keeps d path size t (Err DriveFailed) bytes calls c = stops_keep (Some (Drive d)) calls (failed_stops d path size bytes calls c)
 back_keeps d path size t (Err Absent) bytes calls c = then_keeps d path size bytes c.0 _ calls c.1

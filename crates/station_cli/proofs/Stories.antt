@@ -13,10 +13,10 @@ use Rattle.bay_core.specs.Replay.{Device, Source, Drive, Attaching, Output, Cloc
 use Rattle.bay_core.specs.World.{World, Attached, Honest, Rose}
 use Rattle.bay_core.specs.Went.{Went, Only, Made, MaySee, Then}
 use Rattle.bay_core.specs.Attach.{SameDrive, Attaches, AttachCall}
-use Rattle.bay_core.specs.Looks.{NoChange, Looks, says, Here, Stopped, Caused, Says, said}
+use Rattle.bay_core.specs.Looks.{IsUntouched, Looks, says, Here, Stopped, Caused, Says, said}
 use Rattle.bay_core.proofs.Runs.{made_then, all_on, went_then, went_such, since_made, rose_still, rose_since, told_since}
 use Rattle.bay_core.proofs.Honesty.{honest_before}
-use Rattle.bay_core.proofs.Looking.{reads_kept, no_change_append, no_change_none, no_change_one, looks_keep, stops_keep, drive_here, output_here, said_append, said_tiles, looks_append, one_look, says_looks}
+use Rattle.bay_core.proofs.Looking.{reads_kept, untouched_append, untouched_none, untouched_one, looks_keep, stops_keep, drive_here, output_here, said_append, said_tiles, looks_append, one_look, says_looks}
 use Rattle.mhl_writer.specs.declared.values.HashList.{HashList}
 use Rattle.mhl_writer.specs.declared.values.HashEntry.{HashEntry}
 use Rattle.verify_run.specs.declared.loading.LoadError.{LoadError}
@@ -37,7 +37,7 @@ use Rattle.station_cli.specs.Table.{print_lines, BrokeOff, Told, Untold}
 use Rattle.station_cli.specs.Story.{Story, memory_end, StoryWords, Ran, NoMemory, NoCommand, NoDrive, NoList, NoVerdict, WithVerdict, PartOfTable, WithTable, StoryCommand, End, LastLine, NoLine, load_end, verify_end, end_of, outcome_status, EndCalls, EndStatus, Ended, DriveCalls, StoryCalls, StoryCause, StoryTrue, SaidSince, BegunSince, end_lines, Touched, RunCalls, RunOf, RanOn, IsLoadStory, IsOnDrive, RanCommand}
 
 -- what holds of the map of an honest drive still holds after calls
-still_so : {On : Device → Type 0} {P : List Event → Type 0} {mid new : World} (H : Map → Type 0) (d : ℕ) → ((L : List Event) → P L → NoChange L) → Went On P mid new
+still_so : {On : Device → Type 0} {P : List Event → Type 0} {mid new : World} (H : Map → Type 0) (d : ℕ) → ((L : List Event) → P L → IsUntouched L) → Went On P mid new
     → ((m : Map) (L : List Event) → Honest mid d m L → H (reads m L d)) → (m : Map) (all : List Event) → Honest new d m all → H (reads m all d)
 still_so {On} {P} {mid} {new} H d keep w before_so m all h =
     let (before, was) = honest_before d m all w h in
@@ -45,14 +45,14 @@ still_so {On} {P} {mid} {new} H d keep w before_so m all h =
     subst H (sym (reads_kept m before t.since d (keep t.since t.such)) ∙ ap (λ (l : List Event). reads m l d) (sym t.is)) (before_so m before was)
 
 -- a line changes nothing, said or not
-say_keeps : (line : List ℕ) (ok : Bool) (L : List Event) → L ≡ Say line ok ∷ [] → NoChange L
-say_keeps line ok L is = subst NoChange (sym is) (no_change_one (Say line ok) refl)
+say_keeps : (line : List ℕ) (ok : Bool) (L : List Event) → L ≡ Say line ok ∷ [] → IsUntouched L
+say_keeps line ok L is = subst IsUntouched (sym is) (untouched_one (Say line ok) refl)
 
-end_keeps : (end : End) (result : ℕ) (L : List Event) → EndCalls end result L → NoChange L
+end_keeps : (end : End) (result : ℕ) (L : List Event) → EndCalls end result L → IsUntouched L
 end_keeps (LastLine line status) result L (inl (is, same)) = say_keeps line true L is
-end_keeps (LastLine line status) result L (inr (inl is, same)) = subst NoChange (sym is) no_change_none
+end_keeps (LastLine line status) result L (inr (inl is, same)) = subst IsUntouched (sym is) untouched_none
 end_keeps (LastLine line status) result L (inr (inr is, same)) = say_keeps line false L is
-end_keeps (NoLine status) result L (is, same) = subst NoChange (sym is) no_change_none
+end_keeps (NoLine status) result L (is, same) = subst IsUntouched (sym is) untouched_none
 
 -- the end of a run, after calls on its drive
 ended_here : (d : ℕ) {end : End} {result : ℕ} {mid new : World} → Ended end result mid new → Went (Here d) (EndCalls end result) mid new
@@ -208,21 +208,21 @@ ran_unverified d list hashes e result old mid stop new loaded stopped begun ende
           let t = told_since w at all was.events h.events in
           let same = reads_kept m at t.since d (end_keeps (verify_end e) result t.since t.such) in
           let there : reads m at d ≡ reads m all d = sym same ∙ ap (λ (l : List Event). reads m l d) (sym t.is) in (
-            still_so (λ map. LoadGives (get map list) (Ok hashes)) d (λ L t. subst NoChange (sym t.is) (no_change_append t.first t.second (stops_keep (stopped_at_device d e) t.first t.here) (end_keeps (verify_end e) result t.second t.there))) later loaded.honest m all h,
+            still_so (λ map. LoadGives (get map list) (Ok hashes)) d (λ L t. subst IsUntouched (sym t.is) (untouched_append t.first t.second (stops_keep (stopped_at_device d e) t.first t.here) (end_keeps (verify_end e) result t.second t.there))) later loaded.honest m all h,
             subst (λ map. BegunSince (report_first_lines hashes.entries.items map list) (verify_end e) old.events all) there
                 (begun_since d list hashes (report_first_lines hashes.entries.items (reads m at d) list) (verify_end e) result at all load (begun m at was) w was.events h.events),
           );
     }
 
 -- lines change nothing
-lines_keep : (lines : List (List ℕ)) (L : List Event) → L ≡ says lines → NoChange L
+lines_keep : (lines : List (List ℕ)) (L : List Event) → L ≡ says lines → IsUntouched L
 lines_keep lines L is = looks_keep L (subst Looks (sym is) (says_looks lines))
 
-broken_keeps : (lines : List (List ℕ)) (L : List Event) → BrokeOff lines L → NoChange L
-broken_keeps lines L b = subst NoChange (sym b.calls_are) (no_change_append (says b.first) b.last (lines_keep b.first (says b.first) refl) (last_keeps b.last b.failed))
+broken_keeps : (lines : List (List ℕ)) (L : List Event) → BrokeOff lines L → IsUntouched L
+broken_keeps lines L b = subst IsUntouched (sym b.calls_are) (untouched_append (says b.first) b.last (lines_keep b.first (says b.first) refl) (last_keeps b.last b.failed))
   where
-    last_keeps : (last : List Event) → MaySee (Say b.next false) last → NoChange last
-    last_keeps last (inl is) = subst NoChange (sym is) no_change_none
+    last_keeps : (last : List Event) → MaySee (Say b.next false) last → IsUntouched last
+    last_keeps last (inl is) = subst IsUntouched (sym is) untouched_none
     last_keeps last (inr is) = say_keeps b.next false last is
 
 -- the table was said
