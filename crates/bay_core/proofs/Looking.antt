@@ -14,7 +14,7 @@ use Rattle.bay_core.specs.Map.{Map, Dates}
 use Rattle.bay_core.specs.Replay.{Device, Source, Drive, Attaching, Output, Clock, Picker, device_of, is_on, calls_on, changed, undated, replayed, redated, reads, dated}
 use Rattle.bay_core.specs.World.{World, Honest}
 use Rattle.bay_core.specs.Went.{Went, Only, Called, Ran, ReadCall, ListCall, say_call}
-use Rattle.bay_core.specs.Looks.{Here, Exactly, says, read_call, piece, given, Tiles, is_look, Looks, is_change, is_effect, IsUntouched, is_failure, AtMost, Stops, Caused, Stopped, line_of, said}
+use Rattle.bay_core.specs.Looks.{Here, Exactly, says, read_call, piece, given, Tiles, is_look, Looks, is_change, NoChange, is_effect, IsUntouched, is_failure, AtMost, Stops, Caused, Stopped, line_of, said}
 use Rattle.bay_core.proofs.Runs.{went_then, went_such, went_on, went_none, rose_since, told_since, all_ran}
 use Rattle.bay_core.proofs.Replays.{reads-append, dated-append}
 use Rattle.bay_core.proofs.Honesty.{honest_before}
@@ -213,16 +213,44 @@ no_change (Write n path at bytes ok) h = absurd (cc h)
 no_change (Rename n from to ok) h = absurd (cc h)
 no_change (Remove n path ok) h = absurd (cc h)
 
--- calls among which is no effect leave a map, and the dates, as they were
-pub untouched_replay : (R : Map) (A : List Event) → IsUntouched A → replayed R A ≡ R
-unfolding IsUntouched
-untouched_replay R [] a = refl
-untouched_replay R (e ∷ A) a = ap (λ r. replayed r A) (kept R e (no_change e a.0)) ∙ untouched_replay R A a.1
+-- calls that change nothing leave a map, and the dates, as they were
+no_change_replay : (R : Map) (A : List Event) → NoChange A → replayed R A ≡ R
+unfolding NoChange
+no_change_replay R [] a = refl
+no_change_replay R (e ∷ A) a = ap (λ r. replayed r A) (kept R e a.0) ∙ no_change_replay R A a.1
 
-untouched_redate : (t : Dates) (A : List Event) → IsUntouched A → redated t A ≡ t
-unfolding IsUntouched
-untouched_redate t [] a = refl
-untouched_redate t (e ∷ A) a = ap (λ r. redated r A) (kept_dates t e (no_change e a.0)) ∙ untouched_redate t A a.1
+no_change_redate : (t : Dates) (A : List Event) → NoChange A → redated t A ≡ t
+unfolding NoChange
+no_change_redate t [] a = refl
+no_change_redate t (e ∷ A) a = ap (λ r. redated r A) (kept_dates t e a.0) ∙ no_change_redate t A a.1
+
+no_change_on : (d : ℕ) (A : List Event) → NoChange A → NoChange (calls_on d A)
+unfolding NoChange
+no_change_on d [] a = tt
+no_change_on d (e ∷ A) a =
+    elim (is_on d (device_of e)) as (λ b. NoChange (cond b (e ∷ calls_on d A) (calls_on d A))) [ true ↦ (a.0, no_change_on d A a.1) | false ↦ no_change_on d A a.1 ]
+
+pub no_change_append : (A B : List Event) → NoChange A → NoChange B → NoChange (A ++ B)
+unfolding NoChange
+no_change_append [] B a b = b
+no_change_append (e ∷ A) B a b = (a.0, no_change_append A B a.1 b)
+
+pub no_change_none : NoChange []
+unfolding NoChange
+no_change_none = tt
+
+pub no_change_one : (e : Event) → is_change e ≡ false → NoChange (e ∷ [])
+unfolding NoChange
+no_change_one e h = (h, tt)
+
+-- where no change and no barrier is, no change is
+pub untouched_no_change : (A : List Event) → IsUntouched A → NoChange A
+unfolding NoChange IsUntouched
+untouched_no_change [] a = tt
+untouched_no_change (e ∷ A) a = (no_change e a.0, untouched_no_change A a.1)
+
+pub untouched_replay : (R : Map) (A : List Event) → IsUntouched A → replayed R A ≡ R
+untouched_replay R A a = no_change_replay R A (untouched_no_change A a)
 
 -- so are those of them that are on one drive
 pub untouched_on : (d : ℕ) (A : List Event) → IsUntouched A → IsUntouched (calls_on d A)
@@ -232,11 +260,17 @@ untouched_on d (e ∷ A) a =
     elim (is_on d (device_of e)) as (λ b. IsUntouched (cond b (e ∷ calls_on d A) (calls_on d A))) [ true ↦ (a.0, untouched_on d A a.1) | false ↦ untouched_on d A a.1 ]
 
 -- calls that change nothing leave a drive as it was
+pub reads_unchanged : (m : Map) (L A : List Event) (d : ℕ) → NoChange A → reads m (L ++ A) d ≡ reads m L d
+reads_unchanged m L A d none = reads-append m L A d ∙ no_change_replay (reads m L d) (calls_on d A) (no_change_on d A none)
+
+pub dated_unchanged : (t : Dates) (L A : List Event) (d : ℕ) → NoChange A → dated t (L ++ A) d ≡ dated t L d
+dated_unchanged t L A d none = dated-append t L A d ∙ no_change_redate (dated t L d) (calls_on d A) (no_change_on d A none)
+
 pub reads_kept : (m : Map) (L A : List Event) (d : ℕ) → IsUntouched A → reads m (L ++ A) d ≡ reads m L d
-reads_kept m L A d none = reads-append m L A d ∙ untouched_replay (reads m L d) (calls_on d A) (untouched_on d A none)
+reads_kept m L A d none = reads_unchanged m L A d (untouched_no_change A none)
 
 pub dated_kept : (t : Dates) (L A : List Event) (d : ℕ) → IsUntouched A → dated t (L ++ A) d ≡ dated t L d
-dated_kept t L A d none = dated-append t L A d ∙ untouched_redate (dated t L d) (calls_on d A) (untouched_on d A none)
+dated_kept t L A d none = dated_unchanged t L A d (untouched_no_change A none)
 
 pub untouched_append : (A B : List Event) → IsUntouched A → IsUntouched B → IsUntouched (A ++ B)
 unfolding IsUntouched

@@ -1,6 +1,7 @@
 -- How runs of calls join.
 use Rattle.std.proofs.Common.{◌≡◌, ℕ, Bool, true, false, List, [], ◌∷◌, ◌++◌, map, refl, sym, ◌∙◌, ap, subst, inl, inr, append_assoc, append-nil, arith}
 use Rattle.std.specs.Prelude.{Option, Some}
+use Rattle.std.proofs.lemmas.List.{append_cancel_left}
 use Rattle.bay_core.specs.declared.event.Event.{Event}
 use Rattle.bay_core.specs.Replay.{Device, device_of}
 use Rattle.bay_core.specs.World.{World, Rose}
@@ -141,3 +142,17 @@ told_since {On} {P} {old} {new} w before all was now =
     let m = w.told all now in
     let start : m.before ≡ before = same_list _ _ (sym m.was ∙ was) in
     record { since = m.since; is = m.is ∙ ap (λ (l : List Event). l ++ m.since) start; on = m.on; such = m.such }
+
+-- the same behind calls that were made before the run
+pub told_behind : {On : Device → Type 0} {P : List Event → Type 0} {old new : World} → Went On P old new → (past before all : List Event) → old.events ≡ Some (past ++ before) → new.events ≡ Some (past ++ all) → Told before all On P
+told_behind w past before all was now =
+    let t = told_since w (past ++ before) (past ++ all) was now in
+    record { since = t.since; is = append_cancel_left past all (before ++ t.since) (t.is ∙ append_assoc past before t.since); on = t.on; such = t.such }
+
+-- a moment between two runs is behind those calls too
+pub told_between : {On More : Device → Type 0} {P Q : List Event → Type 0} {old mid new : World} → Went On P old mid → Went More Q mid new →
+    (past before all : List Event) → old.events ≡ Some (past ++ before) → new.events ≡ Some (past ++ all) → (some : List Event) × (mid.events ≡ Some (past ++ some))
+told_between one two past before all was now =
+    let m = two.told (past ++ all) now in
+    let t = told_since one (past ++ before) m.before was m.was in
+    (before ++ t.since, m.was ∙ ap Some (t.is ∙ append_assoc past before t.since))

@@ -66,6 +66,11 @@ is_change (Rename d from to ok) = true
 is_change (Remove d path ok) = true
 is_change _ = false
 
+-- no change is among these calls; a barrier may be
+unfoldable pub NoChange : List Event → Type 0
+NoChange [] = Unit {0}
+NoChange (e ∷ L) = (is_change e ≡ false) × NoChange L
+
 -- a change, or a barrier, whatever its answer
 abbrev pub is_effect : Event → Bool
 is_effect (Write d path at bytes ok) = true

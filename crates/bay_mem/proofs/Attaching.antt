@@ -6,11 +6,11 @@ use Rattle.std.specs.FinMap.{get}
 use Rattle.std.proofs.lemmas.Option.{same_Some, slice_get_within, slice_get-get_or}
 use Rattle.bay_core.specs.declared.event.Event.{Event}
 use Rattle.bay_core.specs.declared.event.Event.TheVariants.{AttachSource, AttachDrive, AttachFailed}
-use Rattle.bay_core.specs.Map.{Dates}
+use Rattle.bay_core.specs.Map.{Map, Dates, AllDated}
 use Rattle.bay_core.specs.Replay.{Device, Source, Drive, Attaching, Output, Clock, Picker, calls_on, reads, dated}
 use Rattle.bay_core.specs.World.{MadeWith}
 use Rattle.bay_core.specs.Went.{Only, IsCall, Called, MaySee}
-use Rattle.bay_core.specs.Attach.{Attaches, CardAttaches, Gives, attached_by, last_from, files_at, dates_at}
+use Rattle.bay_core.specs.Attach.{Attaches, CardAttaches, GivesSo, IsTrueUnless, attached_by, last_from, files_at, dates_at}
 use Rattle.bay_core.proofs.Replays.{calls_elsewhere, no_calls, no_calls_dated}
 use Rattle.bay_core.proofs.Runs.{one_on}
 use Rattle.bay_mem.specs.Files.{Files, Agrees, no_files}
@@ -167,7 +167,7 @@ adds_drive_from s r place d files L D C N was number events drives contents coun
 
 -- a card was attached, where the parts of the state before and after are given by equations
 pub adds_card_from : (s r : State) (place : List ℕ) (n : ℕ) (files : Files) (L : List Event) (C : List Files) (N : List ℕ) → s ≡ r → n ≡ length s.fixed.cards → L ≡ s.events ++ AttachSource n place ∷ []
-    → C ≡ s.fixed.cards ++ files ∷ [] → N ≡ s.counts.cards ++ 0 ∷ [] → found_at r place (last_from place r.events) ≡ Some files → Keeps r
+    → C ≡ s.fixed.cards ++ files ∷ [] → N ≡ s.counts.cards ++ 0 ∷ [] → found_at r place (last_from place r.events) ≡ Some files → AllDated files.map files.dates → Keeps r
     → AddsCard place n r (record {
       told = s.told;
       events = L;
@@ -175,7 +175,7 @@ pub adds_card_from : (s r : State) (place : List ℕ) (n : ℕ) (files : Files) 
       fixed = record { cards = C; drives = s.fixed.drives; places = s.fixed.places; flips = s.fixed.flips; listed = s.fixed.listed };
       counts = record { cards = N; drives = s.counts.drives; attaching = s.counts.attaching; output = s.counts.output };
     })
-adds_card_from s r place n files L C N was number events cards counts found kept =
+adds_card_from s r place n files L C N was number events cards counts found dated kept =
     let noted : L ≡ s.events ++ AttachSource (length s.fixed.cards) place ∷ [] = cc in
     record {
       files = files;
@@ -187,6 +187,7 @@ adds_card_from s r place n files L C N was number events cards counts found kept
         fixed = record { cards = cards i; drives = s.fixed.drives; places = s.fixed.places; flips = s.fixed.flips; listed = s.fixed.listed };
         counts = record { cards = counts i; drives = s.counts.drives; attaching = s.counts.attaching; output = s.counts.output };
       }) ∙ ap (λ (q : State). with_card q place files) was;
+      dated = dated;
       found = found;
       kept = kept;
     }
@@ -227,22 +228,25 @@ found_dates s place (Some Clock) files found k = absurd (cc found)
 found_dates s place (Some Picker) files found k = absurd (cc found)
 
 -- what the new device is given, where these files were found for it
-gives : (s : State) (place : List ℕ) (x : Device) (files : Files) (held : Option Files) (honest_or_not : Bool) → held ≡ Some files → (lies s.fixed x ≡ false → honest_or_not ≡ true) → found_at s place (last_from place s.events) ≡ Some files → Keeps s
-    → Gives place x (map_of held) (dates_of held) honest_or_not (world_of s)
-gives s place x files held honest_or_not has truth found k = record {
-  files = λ made L is told liar.
+gives : (s : State) (place : List ℕ) (files : Files) (held : Option Files) → held ≡ Some files → found_at s place (last_from place s.events) ≡ Some files → Keeps s
+    → GivesSo place (map_of held) (dates_of held) (world_of s)
+gives s place files held has found k L told = record {
+  files = λ made is liar.
       let calls = (told_list s.told s.events L told).1 in
       subst (λ (w : MadeWith). map_of held ≡ files_at w (attached_of s.fixed) L place (last_from place L)) (same_Some (made_with s.fixed) made is)
       (subst (λ (K : List Event). map_of held ≡ files_at (made_with s.fixed) (attached_of s.fixed) K place (last_from place K)) calls
       (ap map_of has ∙ found_map s place (last_from place s.events) files found k));
-  known = λ made L is told liar.
+  known = λ made is liar.
       let calls = (told_list s.told s.events L told).1 in
       subst (λ (w : MadeWith). Agrees (dates_at w (attached_of s.fixed) L place (last_from place L)) (dates_of held)) (same_Some (made_with s.fixed) made is)
       (subst (λ (K : List Event). Agrees (dates_at (made_with s.fixed) (attached_of s.fixed) K place (last_from place K)) (dates_of held)) calls
       (subst (λ (o : Option Files). Agrees (dates_at (made_with s.fixed) (attached_of s.fixed) s.events place (last_from place s.events)) (dates_of o)) (sym has)
       (found_dates s place (last_from place s.events) files found k)));
-  truth = λ made is honest. truth (ap (λ (w : MadeWith). w.may_lie x) (same_Some (made_with s.fixed) made is) ∙ honest);
 }
+
+-- a device is true where nothing was set to make it lie
+true_unless : (s : State) (x : Device) (is_true : Bool) → (lies s.fixed x ≡ false → is_true ≡ true) → IsTrueUnless x is_true (attached_of s.fixed)
+true_unless s x is_true truth made is honest = truth (ap (λ (w : MadeWith). w.may_lie x) (same_Some (made_with s.fixed) made is) ∙ honest)
 
 -- who may lie does not change as devices are attached
 lies_alike : (f : Fixed) (C D : List Files) (x : Device) → lies (record { cards = C; drives = D; places = f.places; flips = f.flips; listed = f.listed }) x ≡ lies f x
@@ -294,7 +298,8 @@ attaches s place files found k =
       );
       unused = λ L told d past. subst (λ (K : List Event). calls_on d K ≡ []) (told_list s.told s.events L told).1 (k.unused d past);
       cause = tt;
-      gives = gives s place (Drive n) files _ _ (slice_get_last s.fixed.drives files) (ap not) found k;
+      gives = gives s place files _ (slice_get_last s.fixed.drives files) found k;
+      truth = true_unless s (Drive n) _ (ap not);
     }
 
 -- an attach of a drive, as the bay promises it
@@ -303,9 +308,16 @@ adds_drive place d s t a =
     subst (λ n. Attaches place (Ok n) (world_of s) (world_of t)) (sym a.number)
     (subst (λ (q : State). Attaches place (Ok (length s.fixed.drives)) (world_of s) (world_of q)) (sym a.is) (attaches s place a.files a.found a.kept))
 
+-- these files have their dates, however they were found
+dated_as : (files : Files) (held : Option Files) → AllDated files.map files.dates → held ≡ Some files → (m : Map) → map_of held ≡ Some m → AllDated m (dates_of held)
+dated_as files None dated is m has = absurd (cc has)
+dated_as files (Some held) dated is m has =
+    let same : files ≡ held = same_Some files held (sym is) in
+    subst (λ (map : Map). AllDated map held.dates) (same_Some held.map m has) (subst (λ (f : Files). AllDated f.map f.dates) same dated)
+
 -- one card more in the world
-card_attaches : (s : State) (place : List ℕ) (files : Files) → found_at s place (last_from place s.events) ≡ Some files → Keeps s → CardAttaches place (Ok (length s.fixed.cards)) (world_of s) (world_of (with_card s place files))
-card_attaches s place files found k =
+card_attaches : (s : State) (place : List ℕ) (files : Files) → AllDated files.map files.dates → found_at s place (last_from place s.events) ≡ Some files → Keeps s → CardAttaches place (Ok (length s.fixed.cards)) (world_of s) (world_of (with_card s place files))
+card_attaches s place files dated found k =
     let n : ℕ = length s.fixed.cards in
     let e : Event = AttachSource n place in
     record {
@@ -321,14 +333,16 @@ card_attaches s place files found k =
         ap Some (made_alike s.fixed (s.fixed.cards ++ files ∷ []) s.fixed.drives),
       );
       cause = tt;
-      gives = gives s place (Source n) files _ _ (slice_get_last s.fixed.cards files) (truth_of_card s.fixed.listed n _) found k;
+      gives = gives s place files _ (slice_get_last s.fixed.cards files) found k;
+      truth = true_unless s (Source n) _ (truth_of_card s.fixed.listed n _);
+      dated = λ m steady. dated_as files _ dated (slice_get_last s.fixed.cards files) m steady.card;
     }
 
 -- an attach of a card, as the bay promises it
 pub adds_card : (place : List ℕ) (n : ℕ) (s t : State) → AddsCard place n s t → CardAttaches place (Ok n) (world_of s) (world_of t)
 adds_card place n s t a =
     subst (λ m. CardAttaches place (Ok m) (world_of s) (world_of t)) (sym a.number)
-    (subst (λ (q : State). CardAttaches place (Ok (length s.fixed.cards)) (world_of s) (world_of q)) (sym a.is) (card_attaches s place a.files a.found a.kept))
+    (subst (λ (q : State). CardAttaches place (Ok (length s.fixed.cards)) (world_of s) (world_of q)) (sym a.is) (card_attaches s place a.files a.dated a.found a.kept))
 
 -- a failed attach is one call on attaching
 failed_attach : (place : List ℕ) (s t : State) → Fails Attaching (AttachFailed place) s t → Called Attaching (MaySee (AttachFailed place)) false (world_of s) (world_of t)

@@ -15,7 +15,7 @@ use Rattle.std.proofs.lemmas.Map.Keys.{IsDistinct-from_sorted}
 use Rattle.std.proofs.lemmas.Map.Text.{btree_map_updates_text, is_eq-slice_cmp}
 use Rattle.bay_core.specs.declared.event.FileInfo.{FileInfo}
 use Rattle.bay_mem.specs.declared.mem_map.MemFile.{MemFile}
-use Rattle.bay_core.specs.Map.{Lists, paths, sizes, listed_dates}
+use Rattle.bay_core.specs.Map.{Lists, AllDated, paths, sizes, listed_dates}
 use Rattle.bay_mem.specs.Files.{with_file, without_file}
 use Rattle.bay_mem.specs.Tree.{kept, files_of}
 
@@ -168,3 +168,11 @@ files_cloned C D keys files m n all =
     let bytes = cloned_pairs (λ f. f.bytes.items) C D keys (λ v w d. (files v w d).bytes) m.entries n.entries all in
     let dates = cloned_pairs (λ f. f.modified) C D keys (λ v w d. (files v w d).modified) m.entries n.entries all in
     λ i. record { map = from_entries (bytes i); dates = from_entries (dates i) }
+
+-- each file of a tree has its date
+pub tree_dated : (m : Tree) → AllDated (files_of m).map (files_of m).dates
+tree_dated m q bytes has = found (get_by_text m q) (sym (get-kept (λ f. f.bytes.items) m q) ∙ has) (get-kept (λ f. f.modified) m q)
+  where
+    found : (o : Option MemFile) → option_map (λ f. f.bytes.items) o ≡ Some bytes → get (files_of m).dates q ≡ option_map (λ f. f.modified) o → (t : ℕ) × (get (files_of m).dates q ≡ Some t)
+    found None no is = absurd (cc no)
+    found (Some f) same is = (f.modified, is)

@@ -5,7 +5,7 @@ use Rattle.std.specs.List.{list_any}
 use Rattle.std.specs.FinMap.{empty, get}
 use Rattle.bay_core.specs.declared.event.Event.{Event}
 use Rattle.bay_core.specs.declared.event.Event.TheVariants.{AttachSource, AttachDrive, Write, Rename, Remove}
-use Rattle.bay_core.specs.Map.{Map, Dates}
+use Rattle.bay_core.specs.Map.{Map, Dates, AllDated}
 use Rattle.bay_core.specs.Replay.{Device, Source, Drive, Attaching, Output, Clock, Picker, calls_on, reads, dated}
 use Rattle.bay_core.specs.Attach.{last_from}
 use Rattle.bay_core.specs.World.{World, Attached, MadeWith}
@@ -276,11 +276,12 @@ pub record Rewrites (d : ℕ) (e : Event) (old new : State) : Type 0 where
   pub files : Files
   pub is : new ≡ rewritten old d e files
 
--- a card was attached, with the files of its place
+-- a card was attached, with the files of its place, each with its date
 pub record AddsCard (place : List ℕ) (s : ℕ) (old new : State) : Type 0 where
   pub files : Files
   pub number : s ≡ length old.fixed.cards
   pub is : new ≡ with_card old place files
+  pub dated : AllDated files.map files.dates
   pub found : found_at old place (last_from place old.events) ≡ Some files
   pub kept : Keeps old
 

@@ -1,7 +1,7 @@
 ghost use Rattle.std.specs.Prelude.{◌≡◌, IfOk, OnErr, OnOk, nat_eq, option_copied};
 ghost use Rattle.std.specs.FinMap.{get, len};
 ghost use Rattle.bay_mem.specs.Files.{no_files, with_file, without_file};
-ghost use Rattle.bay_core.specs.Map.{Lists};
+ghost use Rattle.bay_core.specs.Map.{Lists, AllDated};
 
 use bay_core::{FileInfo, NameText};
 use std::alloc::{AllocError, Global};
@@ -101,9 +101,10 @@ impl MemMap {
         self.len() == 0
     }
 
-    // The same files again.
+    // The same files again, each with its date.
     pub(crate) fn copy(&self) -> Result<MemMap, AllocError>
-        ensures { IfOk result (λ copy. copy ≡ self.now) }
+        ensures same { IfOk result (λ copy. copy ≡ self.now) }
+        ensures dated { IfOk result (λ copy. AllDated copy.map copy.dates) }
     {
         Ok(MemMap {
             alloc: self.alloc,

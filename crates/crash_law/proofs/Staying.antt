@@ -1,6 +1,7 @@
 -- Calls that leave a drive in its state: those on other devices, and the listings and reads of the drive itself.
-use Rattle.std.proofs.Common.{◌≡◌, inl, inr, ℕ, Bool, true, false, List, [], ◌∷◌, ◌++◌, length, IsTrue, refl, sym, ap, ◌∙◌, subst, arith}
+use Rattle.std.proofs.Common.{◌≡◌, inl, inr, ℕ, Bool, true, false, List, [], ◌∷◌, ◌++◌, length, IsTrue, refl, sym, ap, ◌∙◌, subst, arith, append_assoc}
 use Rattle.std.proofs.lemmas.Bool.{cases_eq, false≢true}
+use Rattle.std.proofs.lemmas.List.{append_cancel_left}
 use Rattle.std.specs.Global.{Global}
 use Rattle.std.specs.Prelude.{Option, Some, None, Result, Ok, Err, Vec}
 use Rattle.bay_core.specs.declared.event.Event.{Event}
@@ -11,13 +12,13 @@ use Rattle.bay_core.specs.declared.failed.Failed.{Failed}
 use Rattle.bay_core.specs.declared.failed.ListError.{ListError}
 use Rattle.bay_core.specs.declared.failed.ListError.TheVariants.{Failed as ListFailed, Memory}
 use Rattle.bay_core.specs.Attach.{Attaches, CardAttaches}
-use Rattle.bay_core.specs.Looks.{is_change, IsUntouched, is_look, Looks, is_failure, AtMost, Stops}
+use Rattle.bay_core.specs.Looks.{is_change, NoChange, is_look, Looks, is_failure, AtMost, Stops}
 use Rattle.bay_core.specs.Map.{Map}
 use Rattle.bay_core.specs.Replay.{Device, Source, Drive, Attaching, Output, Clock, Picker, device_of, reads}
 use Rattle.bay_core.specs.Went.{AllOn, Only, Made, Went, Called, ReadCall, ListCall}
 use Rattle.bay_core.specs.World.{World}
-use Rattle.bay_core.proofs.Looking.{reads_kept}
-use Rattle.bay_core.proofs.Runs.{Told, told_since, went_such}
+use Rattle.bay_core.proofs.Looking.{reads_unchanged}
+use Rattle.bay_core.proofs.Runs.{Told, told_behind, went_such}
 use Rattle.crash_law.specs.Law.{Stays, StaysPut}
 use Rattle.crash_law.specs.Lines.{LineHas, AllLines}
 use Rattle.crash_law.specs.Protocol.{Protocol, State, Settled, is_passive, Step, passes, flushes, Leads, IsIn, told_after, Announced, read_after}
@@ -46,8 +47,8 @@ passive_keeps (Rename n from to ok) t = absurd (false≢true t)
 passive_keeps (Remove n path ok) t = absurd (false≢true t)
 
 -- passive calls change nothing
-pub all_passive_keep : (L : List Event) → AllPassive L → IsUntouched L
-unfolding AllPassive IsUntouched
+pub all_passive_keep : (L : List Event) → AllPassive L → NoChange L
+unfolding AllPassive NoChange
 all_passive_keep [] t = tt
 all_passive_keep (e ∷ L) t = (passive_keeps e t.0, all_passive_keep L t.1)
 
@@ -167,12 +168,17 @@ drives_differ d k y ne a b = let e : Drive d ≡ Drive k = sym a ∙ b in ne (sy
 
 -- where the calls so far are told, those before them were
 since_told : {On : Device → Type 0} {Q : List Event → Type 0} {old new : Option (List Event)} → ((all : List Event) → new ≡ Some all → Made On Q old all) →
-    (before all : List Event) → old ≡ Some before → new ≡ Some all → Told before all On Q
-since_told {On} {Q} {old} {new} told before all was now =
-    let m = told all now in
-    let same : Some m.before ≡ Some before = sym m.was ∙ was in
-    let start : m.before ≡ before = cc same in
-    record { since = m.since; is = m.is ∙ ap (λ (l : List Event). l ++ m.since) start; on = m.on; such = m.such }
+    (past before all : List Event) → old ≡ Some (past ++ before) → new ≡ Some (past ++ all) → Told before all On Q
+since_told {On} {Q} {old} {new} told past before all was now =
+    let m = told (past ++ all) now in
+    let same : Some m.before ≡ Some (past ++ before) = sym m.was ∙ was in
+    let start : m.before ≡ past ++ before = cc same in
+    record {
+      since = m.since;
+      is = append_cancel_left past all (before ++ m.since) (m.is ∙ ap (λ (l : List Event). l ++ m.since) start ∙ append_assoc past before m.since);
+      on = m.on;
+      such = m.such;
+    }
 
 module _ (P : Protocol) (d : ℕ) where
   -- passive calls lead the drive nowhere
@@ -185,7 +191,7 @@ module _ (P : Protocol) (d : ℕ) where
   pub passive_stays : (L : List Event) → AllOn (Only (Drive d)) L → AllPassive L → (start : Map) (s : P.Stage) (before : List Event) → Stays P d start s before (before ++ L)
   passive_stays L on passive start s before = record {
     is_in = λ x is. in-append P d start s before L x x is (leads_passive L (Announced P (P.progress s) before) (reads start before d) x on passive);
-    read = reads_kept start before L d (all_passive_keep L passive);
+    read = reads_unchanged start before L d (all_passive_keep L passive);
     told = told-append P d before L (P.progress s) ∙ told_calls P d L (Announced P (P.progress s) before) on;
   }
 
@@ -201,8 +207,8 @@ module _ (P : Protocol) (d : ℕ) where
 
   pub went_away : (On : Device → Type 0) (Q : List ℕ → Type 0) {old new : World} → Went On (AllLines Q) old new → ((y : Device) → On y → y ≡ Drive d → ⊥) → ((line : List ℕ) → Q line → P.announces line ≡ 0) → StaysPut P d old new
   went_away On Q w off none = record {
-    stays = λ start s before all was now.
-        let t = told_since w before all was now in
+    stays = λ start s past before all was now.
+        let t = told_behind w past before all was now in
         subst (λ (K : List Event). Stays P d start s before K) (sym t.is) (away_stays On Q off none t.since t.on t.such start s before);
   }
 
@@ -215,8 +221,8 @@ module _ (P : Protocol) (d : ℕ) where
   pub made_elsewhere : (On : Device → Type 0) {Q : List Event → Type 0} {old new : World} → ((all : List Event) → new.events ≡ Some all → Made On Q old.events all) →
       ((y : Device) → On y → y ≡ Drive d → ⊥) → ((y : Device) → On y → y ≡ Output → ⊥) → StaysPut P d old new
   made_elsewhere On told off quiet = record {
-    stays = λ start s before all was now.
-        let t = since_told told before all was now in
+    stays = λ start s past before all was now.
+        let t = since_told told past before all was now in
         subst (λ (K : List Event). Stays P d start s before K) (sym t.is) (elsewhere_stays On off quiet t.since t.on start s before);
   }
 
@@ -226,8 +232,8 @@ module _ (P : Protocol) (d : ℕ) where
   -- the same of two worlds
   went_passive : {old new : World} → Went (Only (Drive d)) AllPassive old new → StaysPut P d old new
   went_passive w = record {
-    stays = λ start s before all was now.
-        let t = told_since w before all was now in
+    stays = λ start s past before all was now.
+        let t = told_behind w past before all was now in
         subst (λ (K : List Event). Stays P d start s before K) (sym t.is) (passive_stays t.since t.on t.such start s before);
   }
 
@@ -277,12 +283,13 @@ module _ (P : Protocol) (k : ℕ) where
   card_attach_stays place result a = made_elsewhere P k (Only Attaching) a.told (λ y on is. absurd (cc (sym on ∙ is))) (λ y on is. absurd (cc (sym on ∙ is)))
 
   -- one thing after another
-  pub stays_then : {old mid new : World} → ((all : List Event) → new.events ≡ Some all → (some : List Event) × (mid.events ≡ Some some)) → StaysPut P k old mid → StaysPut P k mid new → StaysPut P k old new
+  pub stays_then : {old mid new : World} → ((past before all : List Event) → old.events ≡ Some (past ++ before) → new.events ≡ Some (past ++ all) → (some : List Event) × (mid.events ≡ Some (past ++ some))) →
+      StaysPut P k old mid → StaysPut P k mid new → StaysPut P k old new
   stays_then told one two = record {
-    stays = λ start s before all was now.
-        let between = told all now in
-        let first = one.stays start s before between.0 was between.1 in
-        let second = two.stays start s between.0 all between.1 now in
+    stays = λ start s past before all was now.
+        let between = told past before all was now in
+        let first = one.stays start s past before between.0 was between.1 in
+        let second = two.stays start s past between.0 all between.1 now in
         record { is_in = λ x is. second.is_in x (first.is_in x is); read = second.read ∙ first.read; told = second.told ∙ first.told };
   }
 
@@ -305,18 +312,18 @@ module _ (P : Protocol) (d : ℕ) where
   rest_step (Pick n) told m t on none = absurd (cc on)
   rest_step (Say line ok) told m t on none = absurd (cc on)
 
-  leads_rest : (L : List Event) (told : ℕ) (m : Map) (t : P.Stage) → AllOn (Only (Drive d)) L → IsUntouched L → Leads P d told m (Settled t) L (Settled t)
-  unfolding AllOn IsUntouched
+  leads_rest : (L : List Event) (told : ℕ) (m : Map) (t : P.Stage) → AllOn (Only (Drive d)) L → NoChange L → Leads P d told m (Settled t) L (Settled t)
+  unfolding AllOn NoChange
   leads_rest [] told m t on none = refl
   leads_rest (e ∷ L) told m t on none = (Settled t, rest_step e told m t on.0 none.0, leads_rest L (told_after P e told) (read_after d m e) t on.1 none.1)
 
   -- a drive at rest stays at rest, at its stage, where nothing was changed on it, whatever barriers there were
-  pub rests_still : {old new : World} → Went (Only (Drive d)) IsUntouched old new → (start : Map) (s t : P.Stage) (before all : List Event) → old.events ≡ Some before → new.events ≡ Some all →
+  pub rests_still : {old new : World} → Went (Only (Drive d)) NoChange old new → (start : Map) (s t : P.Stage) (past before all : List Event) → old.events ≡ Some (past ++ before) → new.events ≡ Some (past ++ all) →
       IsIn P d start s before (Settled t) → IsIn P d start s all (Settled t) × (reads start all d ≡ reads start before d) × (Announced P (P.progress s) all ≡ Announced P (P.progress s) before)
-  rests_still w start s t before all was now is =
-      let since = told_since w before all was now in
+  rests_still w start s t past before all was now is =
+      let since = told_behind w past before all was now in
       subst (λ (K : List Event). IsIn P d start s K (Settled t) × (reads start K d ≡ reads start before d) × (Announced P (P.progress s) K ≡ Announced P (P.progress s) before)) (sym since.is) (
         in-append P d start s before since.since (Settled t) (Settled t) is (leads_rest since.since (Announced P (P.progress s) before) (reads start before d) t since.on since.such),
-        reads_kept start before since.since d since.such,
+        reads_unchanged start before since.since d since.such,
         told-append P d before since.since (P.progress s) ∙ told_calls P d since.since (Announced P (P.progress s) before) since.on,
       )

@@ -10,7 +10,7 @@ use Rattle.bay_core.specs.Went.{Only, Went, Called, Ran, Tried, say_call}
 use Rattle.bay_core.specs.Attach.{Attaches}
 use Rattle.bay_core.proofs.Honesty.{no_calls_yet}
 use Rattle.bay_core.proofs.Replays.{no_calls}
-use Rattle.bay_core.proofs.Runs.{told_since, went_such, all_ran}
+use Rattle.bay_core.proofs.Runs.{told_behind, went_such, all_ran}
 use Rattle.crash_law.specs.Protocol.{Protocol, IsSafe, State, Settled, reached, Leads, IsIn, Announced}
 use Rattle.crash_law.specs.Lines.{AllLines, IsLine}
 use Rattle.crash_law.proofs.Lines.{said_lines, told_low}
@@ -26,10 +26,10 @@ pub record Came (P : Protocol) (d : ℕ) (start : Map) (s : P.Stage) (before all
 
 -- calls that were tried, which may be made in this state
 pub tried_in : (P : Protocol) → IsSafe P → (d : ℕ) (cs : List (Bool → Event)) {ok : Bool} {old new : World} → Tried d cs ok old new → AreCalls cs →
-    (start : Map) (s : P.Stage) (before all : List Event) → old.events ≡ Some before → new.events ≡ Some all → (x y : State P) → IsIn P d start s before x →
+    (start : Map) (s : P.Stage) (past before all : List Event) → old.events ≡ Some (past ++ before) → new.events ≡ Some (past ++ all) → (x y : State P) → IsIn P d start s before x →
     Leads P d (Announced P (P.progress s) before) (reads start before d) x (all_ok cs) y → Came P d start s before all ok (all_ok cs) y
-tried_in P safe d cs {ok} t are start s before all was now x y is l =
-    let since = told_since t.went before all was now in
+tried_in P safe d cs {ok} t are start s past before all was now x y is l =
+    let since = told_behind t.went past before all was now in
     let found = ran_leads P d safe cs ok since.since (Announced P (P.progress s) before) (reads start before d) x y are since.such l in
     record {
       state = found.0;
@@ -40,10 +40,10 @@ tried_in P safe d cs {ok} t are start s before all was now x y is l =
 
 -- calls on other devices, and lines that announce no more than was reached, leave a drive in its state
 pub away_in : (P : Protocol) (d : ℕ) (On : Device → Type 0) (Q : List ℕ → Type 0) {old new : World} → Went On (AllLines Q) old new → ((y : Device) → On y → y ≡ Drive d → ⊥) →
-    (start : Map) (s : P.Stage) (before all : List Event) → old.events ≡ Some before → new.events ≡ Some all → (x : State P) → ((line : List ℕ) → Q line → P.announces line ≤ P.progress (reached x)) →
+    (start : Map) (s : P.Stage) (past before all : List Event) → old.events ≡ Some (past ++ before) → new.events ≡ Some (past ++ all) → (x : State P) → ((line : List ℕ) → Q line → P.announces line ≤ P.progress (reached x)) →
     IsIn P d start s before x → IsIn P d start s all x × (reads start all d ≡ reads start before d)
-away_in P d On Q w off start s before all was now x low is =
-    let since = told_since w before all was now in
+away_in P d On Q w off start s past before all was now x low is =
+    let since = told_behind w past before all was now in
     let stays = leads_away P d On Q since.since (Announced P (P.progress s) before) (reads start before d) x off since.on since.such low in (
       subst (λ (K : List Event). IsIn P d start s K x) (sym since.is) (in-append P d start s before since.since x x is stays),
       ap (λ (K : List Event). reads start K d) since.is ∙ reads_still P d On start before since.since off since.on,
@@ -55,18 +55,18 @@ off_output d x out is = absurd (cc (sym out ∙ is))
 
 module _ (P : Protocol) (d : ℕ) (line : List ℕ) where
   -- a line that announces no more than was reached leaves the drive in its state, said or not
-  pub said_in : (ok : Bool) {old new : World} → Called Output (Ran (say_call line ∷ []) ok) ok old new → (start : Map) (s : P.Stage) (before all : List Event) →
-      old.events ≡ Some before → new.events ≡ Some all → (x : State P) → P.announces line ≤ P.progress (reached x) →
+  pub said_in : (ok : Bool) {old new : World} → Called Output (Ran (say_call line ∷ []) ok) ok old new → (start : Map) (s : P.Stage) (past before all : List Event) →
+      old.events ≡ Some (past ++ before) → new.events ≡ Some (past ++ all) → (x : State P) → P.announces line ≤ P.progress (reached x) →
       IsIn P d start s before x → IsIn P d start s all x × (reads start all d ≡ reads start before d)
-  said_in ok c start s before all was now x low is =
-      away_in P d (Only Output) (IsLine line) (went_such (said_lines line ok) c.went) (off_output d) start s before all was now x
+  said_in ok c start s past before all was now x low is =
+      away_in P d (Only Output) (IsLine line) (went_such (said_lines line ok) c.went) (off_output d) start s past before all was now x
       (λ said same. subst (λ (l : List ℕ). P.announces l ≤ P.progress (reached x)) (sym same) low) is
 
   -- once it was said, its steps are announced
-  pub said_told : {old new : World} → Called Output (Ran (say_call line ∷ []) true) true old new → (s : P.Stage) (before all : List Event) → old.events ≡ Some before → new.events ≡ Some all →
+  pub said_told : {old new : World} → Called Output (Ran (say_call line ∷ []) true) true old new → (s : P.Stage) (past before all : List Event) → old.events ≡ Some (past ++ before) → new.events ≡ Some (past ++ all) →
       Announced P (P.progress s) all ≡ max (Announced P (P.progress s) before) (P.announces line)
-  said_told c s before all was now =
-      let since = told_since c.went before all was now in
+  said_told c s past before all was now =
+      let since = told_behind c.went past before all was now in
       let one : since.since ≡ Say line true ∷ [] = all_ran (say_call line ∷ []) since.since since.such in
       ap (Announced P (P.progress s)) (since.is ∙ ap (λ (K : List Event). before ++ K) one) ∙ told-append P d before (Say line true ∷ []) (P.progress s)
 

@@ -35,6 +35,6 @@ pub record Stays (P : Protocol) (d : ℕ) (start : Map) (s : P.Stage) (before al
   pub read : reads start all d ≡ reads start before d
   pub told : Announced P (P.progress s) all ≡ Announced P (P.progress s) before
 
--- so it is after the calls that led from one world to another, where both tell their calls
+-- so it is after the calls that led from one world to another, where both tell their calls, behind those that were made before the run
 pub record StaysPut (P : Protocol) (d : ℕ) (old new : World) : Type 0 where
-  pub stays : (start : Map) (s : P.Stage) (before all : List Event) → old.events ≡ Some before → new.events ≡ Some all → Stays P d start s before all
+  pub stays : (start : Map) (s : P.Stage) (past before all : List Event) → old.events ≡ Some (past ++ before) → new.events ≡ Some (past ++ all) → Stays P d start s before all

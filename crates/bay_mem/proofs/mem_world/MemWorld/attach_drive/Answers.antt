@@ -7,8 +7,8 @@ pub returns-clause-ok : goal.returns-clause-ok
 returns-clause-ok c =
     adds_drive_from _ _ _ _ _ _ _ _ _ c.self.view_is (search rules)
     (pushed _ _ _ _ _ refl c.in_ok-push.ensures.items (ap (AttachDrive c.len-d.result) (c.in_ok-place.ensures ∙ c.as_bytes.ensures.value)))
-    (pushed _ _ _ _ _ c.in_ok-reserve.ensures.items c.in-Ok-Ok-Ok.ensures.items c.in_ok-start.ensures)
-    (pushed _ _ _ _ _ c.in_ok-reserve-2.ensures.items c.in-Ok-Ok-Ok.ensures'.items c.in_ok-files.ensures)
+    (pushed _ _ _ _ _ c.in_ok-reserve.ensures.items c.in-Ok-Ok-Ok.ensures.items c.in_ok-start.ensures.same)
+    (pushed _ _ _ _ _ c.in_ok-reserve-2.ensures.items c.in-Ok-Ok-Ok.ensures'.items c.in_ok-files.ensures.same)
     (pushed _ _ _ _ _ c.in_ok-reserve-3.ensures.items c.in-Ok-Ok-Ok.ensures''.items refl)
     (sym c.in-Some.ensures.found) c.in-Some.ensures.kept
 
