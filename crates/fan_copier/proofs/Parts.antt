@@ -15,7 +15,7 @@ use Rattle.bay_core.specs.Went.{AllOn, Went, Only, Called, Ran, Tried, Then, wri
 use Rattle.bay_core.specs.World.{World, Honest}
 use Rattle.bay_core.proofs.Files.{overwritten_is, length-written}
 use Rattle.bay_core.proofs.Honesty.{honest_before}
-use Rattle.bay_core.proofs.Looking.{reads_kept, untouched_one}
+use Rattle.bay_core.proofs.Looking.{reads_unchanged, no_change_one}
 use Rattle.bay_core.proofs.Maps.{insert_here}
 use Rattle.bay_core.proofs.Replays.{reads-append, reads_by_calls, calls_elsewhere}
 use Rattle.bay_core.proofs.Runs.{went_such, told_since, all_ran}
@@ -52,7 +52,7 @@ quiet_one d e L quiet is = subst (AllQuiet d) (sym is) (quiet, tt)
 
 one_quiet : (m : Map) (L : List Event) (e : Event) (d : ℕ) → Quiet d e → reads m (L ++ e ∷ []) d ≡ reads m L d
 one_quiet m L e d (inl off) = reads_by_calls m (L ++ e ∷ []) L d (calls_elsewhere L e d off)
-one_quiet m L e d (inr still) = reads_kept m L (e ∷ []) d (untouched_one e still)
+one_quiet m L e d (inr still) = reads_unchanged m L (e ∷ []) d (no_change_one e still)
 
 -- what drive d holds is the same after them
 pub quiet_reads : (m : Map) (L A : List Event) (d : ℕ) → AllQuiet d A → reads m (L ++ A) d ≡ reads m L d
