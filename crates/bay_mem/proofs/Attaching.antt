@@ -360,10 +360,11 @@ fails_drive place s t k f =
       unused = λ L told d past. subst (λ (K : List Event). calls_on d K ≡ []) (told_list s.told s.events L told).1 (k.unused d past);
       cause = c.cause refl;
       gives = tt;
+      truth = tt;
     }
 
 -- a failed attach of a card, as the bay promises it
 pub fails_card : (place : List ℕ) (s t : State) → Fails Attaching (AttachFailed place) s t → CardAttaches place (Err (record {})) (world_of s) (world_of t)
 fails_card place s t f =
     let c = failed_attach place s t f in
-    record { told = c.went.told; later = c.went.later Attaching; others = c.went.others; numbered = c.went.attached; cause = c.cause refl; gives = tt }
+    record { told = c.went.told; later = c.went.later Attaching; others = c.went.others; numbered = c.went.attached; cause = c.cause refl; gives = tt; truth = tt; dated = tt }

@@ -174,5 +174,5 @@ pub tree_dated : (m : Tree) → AllDated (files_of m).map (files_of m).dates
 tree_dated m q bytes has = found (get_by_text m q) (sym (get-kept (λ f. f.bytes.items) m q) ∙ has) (get-kept (λ f. f.modified) m q)
   where
     found : (o : Option MemFile) → option_map (λ f. f.bytes.items) o ≡ Some bytes → get (files_of m).dates q ≡ option_map (λ f. f.modified) o → (t : ℕ) × (get (files_of m).dates q ≡ Some t)
-    found None no is = absurd (cc no)
+    found None same is = absurd (cc same)
     found (Some f) same is = (f.modified, is)

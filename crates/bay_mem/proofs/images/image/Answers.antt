@@ -6,7 +6,7 @@ use Rattle.bay_mem.proofs.images.image.Goals as goal
 use Rattle.bay_mem.proofs.images.image.Goals.{then-is_call_on+in_ok-step, else-is_call_on}
 
 pub loop-event-init : goal.loop-event-init
-loop-event-init c = stands_from _ _ _ _ (ap (λ (f : Files). f.map) c.in_ok-copy.ensures) (ap (λ (f : Files). f.map) c.in_ok-copy-2.ensures)
+loop-event-init c = stands_from _ _ _ _ (ap (λ (f : Files). f.map) c.in_ok-copy.ensures.same) (ap (λ (f : Files). f.map) c.in_ok-copy-2.ensures.same)
 
 pub loop-event-preserved : goal.loop-event-preserved
 loop-event-preserved c = elim c.if-is_call_on.branch [
