@@ -245,8 +245,8 @@ gives s place files held has found k L told = record {
 }
 
 -- a device is true where nothing was set to make it lie
-true_unless : (s : State) (x : Device) (is_true : Bool) → (lies s.fixed x ≡ false → is_true ≡ true) → IsTrueUnless x is_true (attached_of s.fixed)
-true_unless s x is_true truth made is honest = truth (ap (λ (w : MadeWith). w.may_lie x) (same_Some (made_with s.fixed) made is) ∙ honest)
+true_unless : (s : State) (x : Device) (is_honest : Bool) → (lies s.fixed x ≡ false → is_honest ≡ true) → IsTrueUnless x is_honest (attached_of s.fixed)
+true_unless s x is_honest truth made is honest = truth (ap (λ (w : MadeWith). w.may_lie x) (same_Some (made_with s.fixed) made is) ∙ honest)
 
 -- who may lie does not change as devices are attached
 lies_alike : (f : Fixed) (C D : List Files) (x : Device) → lies (record { cards = C; drives = D; places = f.places; flips = f.flips; listed = f.listed }) x ≡ lies f x

@@ -1,5 +1,5 @@
 -- Where the calls of each step lead a drive.
-use Rattle.std.proofs.Common.{◌≡◌, ◌≢◌, ◌⊎◌, inl, inr, ℕ, suc, ◌+◌, ◌≤◌, true, List, [], ◌∷◌, ◌++◌, length, drop, Option, Some, None, refl, sym, ap, ◌∙◌, subst, arith, append-nil, length-append, zero-le}
+use Rattle.std.proofs.Common.{◌≡◌, ◌≢◌, ◌⊎◌, inl, inr, ℕ, suc, ◌+◌, ◌≤◌, true, false, List, [], ◌∷◌, ◌++◌, length, drop, Option, Some, None, refl, sym, ap, ◌∙◌, subst, arith, append-nil, length-append, zero-le}
 use Rattle.std.specs.Prelude.{unwrap_or, is_some}
 use Rattle.std.specs.FinMap.{get, insert}
 use Rattle.std.proofs.lemmas.List.{drop_all}
@@ -28,8 +28,12 @@ use Rattle.offload_law.specs.Steps.{IsNext, IsFree, IsBehindGate, IsDrafted, IsS
 use Rattle.offload_law.proofs.Plans.{not_journal, not_scratch, not_new, list_free, file_free, file_plannable}
 use Rattle.offload_law.proofs.Recorded.{true_record}
 
-pub begin_are : (d : ℕ) (bytes : List ℕ) → AreCalls (tidy_calls d None true ++ publish_calls d journal_path bytes)
-begin_are d bytes = (refl, (refl, (refl, (refl, (refl, tt)))))
+-- the two scratch files are two
+pub new_not_part : new_path ≢ part_path
+new_not_part is = let long = ap (λ (l : List ℕ). length l) is in absurd (omega (arith, long))
+
+pub begin_are : (d : ℕ) (bytes : List ℕ) → AreCalls (tidy_calls d None false ++ publish_calls d journal_path bytes)
+begin_are d bytes = (refl, (refl, (refl, (refl, (refl, (refl, tt))))))
 
 pub publish_are : (d : ℕ) (to bytes : List ℕ) → AreCalls (publish_calls d to bytes)
 publish_are d to bytes = (refl, (refl, (refl, (refl, tt))))
@@ -37,9 +41,9 @@ publish_are d to bytes = (refl, (refl, (refl, (refl, tt))))
 pub record_are : (d gate : ℕ) (path piece : List ℕ) → AreCalls (place_calls d gate path piece ++ open_calls d gate)
 record_are d gate path piece = (refl, (refl, (refl, (refl, (refl, tt)))))
 
-pub tidy_on : (d : ℕ) → AllOn (Only (Drive d)) (all_ok (tidy_calls d None true))
+pub tidy_on : (d : ℕ) → AllOn (Only (Drive d)) (all_ok (tidy_calls d None false))
 unfolding AllOn
-tidy_on d = (refl, tt)
+tidy_on d = (refl, (refl, tt))
 
 pub place_on : (d gate : ℕ) (path piece : List ℕ) → AllOn (Only (Drive d)) (all_ok (place_calls d gate path piece))
 unfolding AllOn
@@ -68,11 +72,14 @@ module _ (d : ℕ) (m : Map) (bytes : List ℕ) (no_new : get m new_path ≡ Non
   waits_alone q differ = ap (λ (n : Map). get n q) waiting_is ∙ insert_other m new_path (overwritten (content m new_path) 0 bytes) q differ
 
 module _ (d : ℕ) (o : Offload) (plan : IsPlan o.plan) (base : Map) (told : ℕ) where
-  -- the file that waits for its name is removed
-  pub tidy_leads : (m : Map) (x : State (offload d o base)) → MayPrepare x → reached x ≡ Fresh → Leads (offload d o base) d told m x (all_ok (tidy_calls d None true)) (Preparing Fresh)
+  -- the scratch files are removed
+  pub tidy_leads : (m : Map) (x : State (offload d o base)) → MayPrepare x → reached x ≡ Fresh → Leads (offload d o base) d told m x (all_ok (tidy_calls d None false)) (Preparing Fresh)
   tidy_leads m x may at =
-      subst (λ (r : Stage). Leads (offload d o base) d told m x (all_ok (tidy_calls d None true)) (Preparing r)) at
-      (Preparing (reached x), prepares refl may (subst (λ (r : Stage). IsFree o.plan r new_path) (sym at) (inl refl)), refl)
+      subst (λ (r : Stage). Leads (offload d o base) d told m x (all_ok (tidy_calls d None false)) (Preparing r)) at (
+        Preparing (reached x),
+        prepares refl may (subst (λ (r : Stage). IsFree o.plan r new_path) (sym at) (inl refl)),
+        (Preparing (reached x), prepares refl tt (subst (λ (r : Stage). IsFree o.plan r part_path) (sym at) (inr refl)), refl),
+      )
 
   -- the journal is published
   pub publish_leads : (m : Map) → get m new_path ≡ None → get m (list_of o.plan) ≡ None →

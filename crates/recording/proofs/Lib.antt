@@ -1,5 +1,5 @@
 pub mod Leads
 pub mod Turns
-pub mod Pieces
-pub mod Aloud
-pub mod All
+pub mod Pending
+pub mod Acts
+pub mod Clearing

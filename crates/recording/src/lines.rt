@@ -1,9 +1,21 @@
-// The line of a file that was recorded.
+// The lines that announce steps.
 ghost use Rattle.std.specs.Prelude.{◌≡◌, ◌+◌, ◌≤◌, ◌++◌, ◌∷◌, length, decimal};
-ghost use Rattle.offload_law.specs.Lines.{done_text};
+ghost use Rattle.offload_law.specs.Lines.{begun_text, done_text};
 
 use itoa::Buffer;
 use path_text::{PathText, Scratch};
+
+/// Leaves the line `begun` of a drive in `out`, without its line feed: its journal is settled on the drive with so many
+/// records of `count` (docs/FORMATS.md, "Lines").
+pub fn begun_into(out: &mut Scratch, d: u32, records: u32, count: u32)
+    ensures { out.new ≡ begun_text d records count }
+{
+    out.clear();
+    out.push(b"begun");
+    add_number(out, d);
+    add_number(out, records);
+    add_number(out, count);
+}
 
 /// Leaves the line `done` of a drive in `out`, without its line feed: the record of this path is settled on the
 /// drive, as its `number`-th of `count` (docs/FORMATS.md, "Lines").
