@@ -61,7 +61,7 @@ fn main(rt: HostRuntime) -> ExitCode {
 }
 PROGRAM
 cp "$here/../HANDLES" "$work"
-printf 'path_text: thiserror jiff_core\nmhl_writer: path_text hex itoa\nsample: path_text mhl_writer\n' > "$work/crates.txt"
+printf 'path_text: thiserror jiff\nmhl_writer: path_text hex itoa\nsample: path_text mhl_writer\n' > "$work/crates.txt"
 git -C "$work" init -q
 (cd "$work/crates/sample" && rt try 2> "$work/log" | sed '/^run=ended/d' > "$work/list.xml") || { tail -5 "$work/log"; exit 1; }
 python3 - "$work/list.xml" <<'PYTHON'

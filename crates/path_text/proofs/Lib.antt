@@ -1,5 +1,6 @@
 pub mod PlaceLemmas
 pub mod Texts
+pub mod Calendar
 pub mod Moments
 pub mod Ancestors
 pub mod Labels

@@ -1,18 +1,17 @@
 -- Laws of moments and their texts.
-use Rattle.std.proofs.Common.{◌≡◌, ◌≢◌, ℕ, zero, suc, ◌+◌, ◌-◌, ◌*◌, ◌/◌, ◌%◌, ◌<◌, ◌≤◌, Bool, true, false, cond, List, length, refl, sym, ap, ◌∙◌, subst, arith, ℤ, pos, ◌+ℤ◌, ◌-ℤ◌, ◌<ℤ◌, ◌≤ℤ◌, unsigned_abs, Option, Some, None, SomeIff, ◌&&◌, nat_le}
+use Rattle.std.proofs.Common.{◌≡◌, ◌≢◌, ℕ, zero, suc, ◌+◌, ◌-◌, ◌*◌, ◌/◌, ◌%◌, ◌<◌, ◌≤◌, Bool, true, false, cond, List, length, refl, sym, ap, ◌∙◌, subst, arith, pos, Option, Some, None, SomeIff, ◌&&◌, nat_le}
 use Rattle.std.specs.Bool.{Decides}
 use Rattle.std.specs.List.{list_all}
 use Rattle.std.specs.Str.{bytes_eq}
-use Rattle.std.proofs.lemmas.Bool.{leb-true, le-leb}
+use Rattle.std.proofs.lemmas.Bool.{leb-true, leb-false, le-leb, lt-leb}
 use Rattle.std.proofs.lemmas.Bool.Decides.{Decides-and, nat_tests}
 use Rattle.std.proofs.lemmas.Slice.Eq.{bytes_eq-Decides}
-use Rattle.jiff_core.specs.Calendar.{days_from_civil, days_in_month, IsCivilDate}
-use Rattle.jiff_core.specs.Date.{epoch_day}
-use Rattle.jiff_core.specs.declared.civil.date.Date.{Date}
-use Rattle.jiff_core.proofs.SignedLemmas.{signed_arith, one_part}
-use Rattle.jiff_core.proofs.CalendarLemmas.{days_from_civil-day_count, day_count-epoch, day_count-end, days_in_month_bounds}
-use Rattle.jiff_core.proofs.DateLemmas.{epoch_day_injective, epoch_day_range, days_from_civil-day, days_from_civil-next_month, days_from_civil-next_year}
-use Rattle.path_text.specs.Moment.{last_up_to, has_begun, year_on, month_on, day_on, last_moment, moment_text, date_time_text, told_two, told_four, told_moment, moment_of, is_date_byte}
+use Rattle.jiff.specs.Types.{Date}
+use Rattle.jiff.specs.Words.{epoch_day, IsDate, days_in_month}
+use Rattle.jiff.proofs.Family.{epoch_day_injective, epoch_day_range}
+use Rattle.jiff.proofs.SpanFacts.{signed_arith}
+use Rattle.path_text.proofs.Calendar.{days_in_month_bounds, day_number-first, day_number-end, day_number-next_month, day_number-next_year, day_number-date, epoch_day-day_number}
+use Rattle.path_text.specs.Moment.{last_up_to, has_begun, year_on, month_on, day_on, day_number, last_moment, moment_text, date_time_text, told_two, told_four, told_moment, moment_of, is_date_byte}
 
 -- the greatest number up to n that passes a test, where `low` is one that passes and n + 1 does not
 pub record IsLast (test : ℕ → Bool) (low n last : ℕ) : Type 0 where
@@ -57,60 +56,19 @@ last_up_to-is_last test low n h passes beyond =
       ] refl;
     }
 
-days_from_civil-epoch : days_from_civil (pos 1970) 1 1 ≡ pos 0
-days_from_civil-epoch = omega (arith, signed_arith, days_from_civil-day_count (pos 1970) 1 1, day_count-epoch)
-
-days_from_civil-end : days_from_civil (pos 10000) 1 1 ≡ pos 2_932_897
-days_from_civil-end = omega (arith, signed_arith, days_from_civil-day_count (pos 10000) 1 1, day_count-end)
-
--- what follows December is the next January
-days_from_civil-thirteen : (year : ℕ) → days_from_civil (pos year) 13 1 ≡ days_from_civil (pos (year + 1)) 1 1
-days_from_civil-thirteen year =
-    omega (arith, signed_arith, days_from_civil-next_month (pos year) 12 31 (omega arith) refl, days_from_civil-next_year (pos year) (pos (year + 1)) (omega (arith, signed_arith)) (omega (arith, signed_arith)))
-
-begun : (day year month : ℕ) → has_begun day year month ≡ true → days_from_civil (pos year) month 1 ≤ℤ pos day
-begun day year month h = omega (arith, signed_arith, h)
-
-not_begun : (day year month : ℕ) → has_begun day year month ≡ false → pos day <ℤ days_from_civil (pos year) month 1
-not_begun day year month h = omega (arith, signed_arith, h)
-
-is_begun : (day year month : ℕ) → days_from_civil (pos year) month 1 ≤ℤ pos day → has_begun day year month ≡ true
-is_begun day year month h =
-    elim (has_begun day year month) as (λ b. has_begun day year month ≡ b → b ≡ true) [
-      | true ↦ λ e. refl
-      | false ↦ λ e. absurd (omega (arith, signed_arith, not_begun day year month e))
-    ] refl
-
-is_not_begun : (day year month : ℕ) → pos day <ℤ days_from_civil (pos year) month 1 → has_begun day year month ≡ false
-is_not_begun day year month h =
-    elim (has_begun day year month) as (λ b. has_begun day year month ≡ b → b ≡ false) [
-      | true ↦ λ e. absurd (omega (arith, signed_arith, begun day year month e))
-      | false ↦ λ e. refl
-    ] refl
-
 year_on-is_last : (day : ℕ) → day ≤ 2_932_896 → IsLast (λ year. has_begun day year 1) 1970 9999 (year_on day)
 unfolding year_on
 year_on-is_last day h =
     last_up_to-is_last (λ year. has_begun day year 1) 1970 9999 (omega arith)
-    (is_begun day 1970 1 (rw days_from_civil-epoch (omega (arith, signed_arith))))
-    (is_not_begun day 10000 1 (rw days_from_civil-end (omega (arith, signed_arith))))
+    (le-leb _ day (omega (arith, day_number-first)))
+    (lt-leb _ day (omega (arith, day_number-end)))
 
 month_on-is_last : (day : ℕ) → day ≤ 2_932_896 → IsLast (has_begun day (year_on day)) 1 12 (month_on day)
 unfolding month_on
 month_on-is_last day h =
     let year = year_on-is_last day h in
     last_up_to-is_last (has_begun day (year_on day)) 1 12 (omega arith) year.passes
-    (is_not_begun day (year_on day) 13 (rw (days_from_civil-thirteen (year_on day)) (not_begun day (year_on day + 1) 1 year.next)))
-
--- the days since the first of the month, where the next month begins after them
-month_day : (first next : ℤ) (day long : ℕ) → first ≤ℤ pos day → pos day <ℤ next → next ≡ first +ℤ pos long → (unsigned_abs (pos day -ℤ first) + 1 ≤ long) × (first +ℤ pos (unsigned_abs (pos day -ℤ first)) ≡ pos day)
-month_day first next day long low high e = omega (arith, signed_arith, one_part (pos day -ℤ first), e)
-
--- the first of the next month comes after the days of this one
-next_month : (year month : ℕ) → 1 ≤ month → days_from_civil (pos year) (month + 1) 1 ≡ days_from_civil (pos year) month 1 +ℤ pos (days_in_month (pos year) month)
-next_month year month h =
-    let long = days_in_month_bounds (pos year) month in
-    omega (arith, signed_arith, days_from_civil-next_month (pos year) month (days_in_month (pos year) month) h refl, days_from_civil-day (pos year) month (days_in_month (pos year) month) 1 (omega arith) (omega arith))
+    (rw (day_number-next_year (year_on day) year.least) year.next)
 
 -- the parts of a day up to 9999-12-31 are a date of the calendar, and that date has this day number
 pub record IsDayOf (day year month date : ℕ) : Type 0 where
@@ -120,22 +78,24 @@ pub record IsDayOf (day year month date : ℕ) : Type 0 where
   pub month_high : month ≤ 12
   pub date_low : 1 ≤ date
   pub date_high : date ≤ days_in_month (pos year) month
-  pub number : days_from_civil (pos year) month date ≡ pos day
+  pub number : day_number year month date ≡ day
 
 pub day_parts : (day : ℕ) → day ≤ 2_932_896 → IsDayOf day (year_on day) (month_on day) (day_on day)
 unfolding day_on
 day_parts day h =
     let year = year_on-is_last day h in
     let month = month_on-is_last day h in
-    let inside = month_day (days_from_civil (pos (year_on day)) (month_on day) 1) _ day (days_in_month (pos (year_on day)) (month_on day)) (begun day (year_on day) (month_on day) month.passes) (not_begun day (year_on day) (month_on day + 1) month.next) (next_month (year_on day) (month_on day) month.least) in
+    let begun = leb-true _ day month.passes in
+    let next = leb-false _ day month.next in
+    let long = day_number-next_month (year_on day) (month_on day) month.least in
     record {
       year_low = year.least;
       year_high = year.most;
       month_low = month.least;
       month_high = month.most;
       date_low = omega arith;
-      date_high = inside.0;
-      number = omega (arith, signed_arith, inside.1, days_from_civil-day (pos (year_on day)) (month_on day) (day_on day) 1 (omega arith) (omega arith));
+      date_high = omega (arith, begun, next, long);
+      number = omega (arith, begun, day_number-date (year_on day) (month_on day) (day_on day) (omega arith));
     }
 
 -- and they are the parts of each date with that day number
@@ -150,7 +110,8 @@ date_parts d day e =
       month_in = omega arith;
       day_in = (parts.date_low, parts.date_high);
     } in
-    epoch_day_injective d other (e ∙ sym parts.number)
+    let number : epoch_day other ≡ pos day = epoch_day-day_number other (year_on day) refl parts.year_low ∙ ap pos parts.number in
+    epoch_day_injective d other (e ∙ sym number)
 
 -- the digits of a number tell it
 two_back : (n : ℕ) → n ≤ 99 → 10 * (48 + n / 10 % 10 - 48) + (48 + n % 10 - 48) ≡ n
@@ -186,11 +147,11 @@ pub told_text : (text : List ℕ) (t : ℕ) → t ≤ last_moment → text ≡ m
 told_text text t h e = rw e (moment_text-tells t h)
 
 -- the digits of a moment's text tell a date of the calendar, the one of its day
-pub told_date : (text : List ℕ) (t : ℕ) → t ≤ last_moment → text ≡ moment_text t → IsCivilDate (pos (told_four text 0)) (told_two text 5) (told_two text 8) × (days_from_civil (pos (told_four text 0)) (told_two text 5) (told_two text 8) ≡ pos (t / 86_400))
+pub told_date : (text : List ℕ) (t : ℕ) → t ≤ last_moment → text ≡ moment_text t → (1970 ≤ told_four text 0) × IsDate (pos (told_four text 0)) (pos (told_two text 5)) (pos (told_two text 8)) × (day_number (told_four text 0) (told_two text 5) (told_two text 8) ≡ t / 86_400)
 told_date text t h e =
     let tells = told_text text t h e in
     let parts = day_parts (t / 86_400) (omega arith) in
-    rw (tells.year, tells.month, tells.date) ((omega (arith, signed_arith), (parts.month_low, parts.month_high), (parts.date_low, parts.date_high)), parts.number)
+    rw (tells.year, tells.month, tells.date) (parts.year_low, (omega (arith, signed_arith), (omega (arith, signed_arith), omega (arith, signed_arith)), (omega (arith, signed_arith), omega (arith, signed_arith))), parts.number)
 
 time_back : (t : ℕ) → 86_400 * (t / 86_400) + 3_600 * (t % 86_400 / 3_600) + 60 * (t % 86_400 / 60 % 60) + t % 86_400 % 60 ≡ t
 time_back t = omega arith
@@ -258,10 +219,10 @@ unfolding moment_text
 parts_text t year month date y m d = rw (y, m, d)
 
 -- the moment from the day that its text tells, and from the time of day that it tells
-pub told_seconds : (text : List ℕ) (t day : ℕ) → t ≤ last_moment → text ≡ moment_text t → pos day ≡ days_from_civil (pos (told_four text 0)) (told_two text 5) (told_two text 8) → 86_400 * day + (3_600 * told_two text 11 + 60 * told_two text 14 + told_two text 17) ≡ t
+pub told_seconds : (text : List ℕ) (t day : ℕ) → t ≤ last_moment → text ≡ moment_text t → day ≡ day_number (told_four text 0) (told_two text 5) (told_two text 8) → 86_400 * day + (3_600 * told_two text 11 + 60 * told_two text 14 + told_two text 17) ≡ t
 told_seconds text t day h e number =
     let tells = told_text text t h e in
-    let same : day ≡ t / 86_400 = ap unsigned_abs (number ∙ (told_date text t h e).1) in
+    let same : day ≡ t / 86_400 = number ∙ (told_date text t h e).2 in
     rw (same, tells.hour, tells.minute, tells.second_of_minute) (omega (arith, time_back t))
 
 -- what `new` answers for a moment

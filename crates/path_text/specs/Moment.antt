@@ -1,7 +1,7 @@
 -- A moment as its seconds since 1970-01-01T00:00:00Z, and its text in the form of ISO 8601.
-use Rattle.std.specs.Prelude.{ℕ, zero, suc, ◌+◌, ◌-◌, ◌*◌, ◌/◌, ◌%◌, pos, ◌-ℤ◌, int_le, unsigned_abs, Bool, ◌&&◌, ◌||◌, ◌==◌, nat_le, if◌then◌else◌, List, [], ◌∷◌, ◌++◌, codes, slice_index, Option, Some, None}
+use Rattle.std.specs.Prelude.{ℕ, zero, suc, ◌+◌, ◌-◌, ◌*◌, ◌/◌, ◌%◌, pos, Bool, ◌&&◌, ◌||◌, ◌==◌, nat_le, if◌then◌else◌, List, [], ◌∷◌, ◌++◌, codes, slice_index, Option, Some, None}
 use Rattle.std.specs.Str.{bytes_eq}
-use Rattle.jiff_core.specs.Calendar.{days_from_civil}
+use Rattle.jiff.specs.Words.{days_in_year, days_in_month}
 
 -- the last moment, 9999-12-31T23:59:59Z
 abbrev pub last_moment : ℕ
@@ -12,9 +12,23 @@ unfoldable pub last_up_to : (ℕ → Bool) → ℕ → ℕ
 last_up_to test zero = 0
 last_up_to test (suc n) = if test (suc n) then suc n else last_up_to test n
 
+-- the days of the first n years from 1970 on
+unfoldable pub days_of_years : ℕ → ℕ
+days_of_years zero = 0
+days_of_years (suc n) = days_of_years n + days_in_year (pos (1970 + n))
+
+-- the days of the first n months of a year
+unfoldable pub days_of_months : ℕ → ℕ → ℕ
+days_of_months year zero = 0
+days_of_months year (suc n) = days_of_months year n + days_in_month (pos year) (suc n)
+
+-- the days from 1970-01-01 to a date from then on
+unfoldable pub day_number : ℕ → ℕ → ℕ → ℕ
+day_number year month date = days_of_years (year - 1970) + days_of_months year (month - 1) + (date - 1)
+
 -- by that day, counted from 1970-01-01, the month of the year has begun
 abbrev pub has_begun : ℕ → ℕ → ℕ → Bool
-has_begun day year month = int_le (days_from_civil (pos year) month 1) (pos day)
+has_begun day year month = nat_le (day_number year month 1) day
 
 -- the year that a day lies in: the last one whose January has begun
 unfoldable pub year_on : ℕ → ℕ
@@ -26,7 +40,7 @@ month_on day = last_up_to (has_begun day (year_on day)) 12
 
 -- the day of the month: one more than the days since the first of the month
 unfoldable pub day_on : ℕ → ℕ
-day_on day = unsigned_abs (pos day -ℤ days_from_civil (pos (year_on day)) (month_on day) 1) + 1
+day_on day = day - day_number (year_on day) (month_on day) 1 + 1
 
 -- the last two decimal digits of a number, in ASCII
 abbrev pub two_digits : ℕ → List ℕ
@@ -60,7 +74,7 @@ told_four text at = 100 * told_two text at + told_two text (at + 2)
 -- the moment that the digits tell, if text is of the form 2014-10-24T12:00:00Z
 unfoldable pub told_moment : List ℕ → ℕ
 told_moment text =
-    86_400 * unsigned_abs (days_from_civil (pos (told_four text 0)) (told_two text 5) (told_two text 8))
+    86_400 * day_number (told_four text 0) (told_two text 5) (told_two text 8)
     + 3_600 * told_two text 11 + 60 * told_two text 14 + told_two text 17
 
 -- the moment whose text this is, if there is one

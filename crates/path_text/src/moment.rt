@@ -1,10 +1,11 @@
 //! Moments, and their text in the form of ISO 8601.
 
 ghost use Rattle.std.specs.Prelude.{◌≡◌, ◌≢◌, ◌≤◌, ◌<◌, ◌+◌, ◌%◌, ℕ, length, pos, ◌≤ℤ◌, SomeIff, IfSome, IfNone, Some};
-ghost use Rattle.path_text.specs.Moment.{last_moment, moment_text, moment_of, date_time_text, year_on, month_on, day_on, told_two};
-ghost use Rattle.jiff_core.specs.Calendar.{days_from_civil, IsCivilDate};
+ghost use Rattle.path_text.specs.Moment.{last_moment, moment_text, moment_of, date_time_text, day_number, year_on, month_on, day_on, told_two};
+ghost use Rattle.jiff.specs.Words.{epoch_day, IsDate};
 
-use jiff_core::civil::Date;
+use jiff::ToSpan;
+use jiff::civil::{Date, date};
 use std::marker::Model;
 
 /// A moment: whole seconds since 1970-01-01T00:00:00Z (UTC, with no leap seconds), from there to
@@ -83,18 +84,33 @@ struct CivilDate {
     day: u32,
 }
 
-/// The date that many days after 1970-01-01, up to 9999-12-31.
+/// The first day of all moments, 1970-01-01.
+fn first_day() -> Date
+    ensures { epoch_day result ≡ pos 0 }
+{
+    date(1970, 1, 1)
+}
+
+/// The day that many days after the first, up to 9999-12-31.
+fn calendar_day(day: u64) -> Date
+    requires { day ≤ 2_932_896 }
+    ensures { epoch_day result ≡ pos day }
+{
+    first_day().checked_add((day as i64).days()).unwrap()
+}
+
+/// The parts of that day.
 fn date_on(day: u64) -> CivilDate
     requires { day ≤ 2_932_896 }
     ensures year { result.year ≡ year_on day }
     ensures month { result.month ≡ month_on day }
     ensures day { result.day ≡ day_on day }
 {
-    let date = Date::from_unix_epoch_day(day as i64).unwrap();
+    let date = calendar_day(day);
     CivilDate {
-        year: date.year as u32,
-        month: u32::from(date.month),
-        day: u32::from(date.day),
+        year: date.year() as u32,
+        month: date.month() as u32,
+        day: date.day() as u32,
     }
 }
 
@@ -157,18 +173,17 @@ fn told(text: &[u8]) -> Option<Moment>
 /// The days from 1970-01-01 to a date of the calendar; None for one before it, and where there is none.
 fn day_number(year: u32, month: u32, date: u32) -> Option<u64>
     ensures bound { IfSome result (λ n. n ≤ 2_932_896) }
-    ensures value { IfSome result (λ n. pos n ≡ days_from_civil (pos year) month date) }
-    ensures none { IfNone result (¬ (IsCivilDate (pos year) month date
-        × (pos 0 ≤ℤ days_from_civil (pos year) month date))) }
+    ensures value { IfSome result (λ n. n ≡ day_number year month date) }
+    ensures none { IfNone result (1970 ≤ year → ¬ (IsDate (pos year) (pos month) (pos date))) }
 {
-    if year > 9999 || month > 12 || date > 31 {
+    if year < 1970 || year > 9999 || month > 12 || date > 31 {
         return None;
     }
     let Ok(date) = Date::new(year as i16, month as i8, date as i8) else {
         return None;
     };
-    let days = date.to_unix_epoch_day();
-    if days < 0 { None } else { Some(days as u64) }
+    let seconds = date.duration_since(first_day()).as_secs();
+    Some(seconds as u64 / DAY_SECONDS)
 }
 
 /// The number that two digits tell; other bytes tell some number too.

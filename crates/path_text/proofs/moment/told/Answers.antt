@@ -1,5 +1,4 @@
-use Rattle.std.proofs.Common.{◌∙◌, ap, arith, length}
-use Rattle.jiff_core.proofs.SignedLemmas.{signed_arith}
+use Rattle.std.proofs.Common.{◌∙◌, ap, length}
 use Rattle.path_text.proofs.Moments.{length-moment_text, told_date, told_seconds, new_is}
 use Rattle.path_text.proofs.moment.told.Goals as goal
 
@@ -9,8 +8,7 @@ returns-then-text-ne20-clause-only c m h e = absurd (c.if-text-ne20.true (ap len
 pub returns-in_default-clause-only : goal.returns-in_default-clause-only
 returns-in_default-clause-only c m h e =
     let date = told_date c.args.text.now m h e in
-    absurd (c.in_default.ensures.none (rw (c.told_pair.ensures.value, c.told_pair-2.ensures.value, c.told_pair-month.ensures.value, c.told_pair-date.ensures.value)
-    (date.0, rw date.1 (omega (arith, signed_arith)))))
+    absurd (rw (c.told_pair.ensures.value, c.told_pair-2.ensures.value, c.told_pair-month.ensures.value, c.told_pair-date.ensures.value) at c.in_default.ensures.none date.0 date.1)
 
 pub returns-clause-only : goal.returns-clause-only
 returns-clause-only c m h e =
