@@ -19,3 +19,4 @@ pub mod Skips
 pub mod Scanning
 pub mod Distinct
 pub mod NoMemory
+pub mod Exact

@@ -1,5 +1,5 @@
 -- Want of memory is no fault of a document.
-use Rattle.std.proofs.Common.{◌≡◌, ◌⊎◌, inl, inr, ℕ, Bool, true, false, cond, List, [], ◌∷◌, ◌++◌, length, Option, Some, None, Result, Ok, Err, refl, sym, ap, subst, ◌∙◌}
+use Rattle.std.proofs.Common.{◌≡◌, inl, inr, ℕ, Bool, true, false, cond, List, [], ◌∷◌, Option, Some, None, Result, Ok, Err, sym, ◌∙◌}
 use Rattle.markup.specs.declared.text.TextError.{TextError}
 use Rattle.markup.specs.declared.text.TextError.TheVariants as texts
 use Rattle.markup.specs.declared.token.MarkupError.{MarkupError}
@@ -7,7 +7,7 @@ use Rattle.markup.specs.declared.token.MarkupError.TheVariants as pieces
 use Rattle.markup.specs.Mark.{Named, Mark, start, stop, aside, text, Placed}
 use Rattle.mhl_writer.specs.declared.values.HashEntry.{HashEntry}
 use Rattle.mhl_reader.specs.declared.error.ReadError.{ReadError}
-use Rattle.mhl_reader.specs.declared.error.ReadError.TheVariants.{Malformed, Version, NoFile, Twice, BadPath, BadSize, BadDigest, TooMany, Memory}
+use Rattle.mhl_reader.specs.declared.error.ReadError.TheVariants.{Malformed, Version, NoFile, Twice, BadPath, TooMany, Memory}
 use Rattle.mhl_reader.specs.declared.found.HashLeaf.{HashLeaf}
 use Rattle.mhl_reader.specs.declared.found.HashLeaf.TheVariants.{File, Size, Modified, Hashed, Md5, Sha1, Xxh}
 use Rattle.mhl_reader.specs.declared.found.HashLeaves.{HashLeaves}
@@ -15,8 +15,8 @@ use Rattle.mhl_reader.specs.declared.found.CreatorLeaf.{CreatorLeaf}
 use Rattle.mhl_reader.specs.declared.found.CreatorLeaves.{CreatorLeaves}
 use Rattle.mhl_reader.specs.Leaves.{with_leaf, hash_leaf, has_leaf, entry_of, new_creator_leaf}
 use Rattle.mhl_reader.specs.Grammar.{Found, ListElement, a_hash, first_creator, another, list_element}
-use Rattle.mhl_reader.specs.Faults.{Base, before, in_list, in_hash, in_hash_leaf, in_creator, in_creator_leaf, after, State, at_base, provided, filled, entered_list, entered_hash, entered_creator, entered, leaf_fault, left_hash_leaf, left_hash, closed, read, passed, step_skipping, step, steps, ended_base, ended_skipping, ended, ◌>>=◌}
-use Rattle.mhl_reader.specs.Reading.{text_fault, markup_fault, FaultAt, FirstOfText, FirstFault}
+use Rattle.mhl_reader.specs.Faults.{Base, before, in_list, in_hash, in_hash_leaf, in_creator, in_creator_leaf, after, State, provided, filled, entered_list, entered_hash, entered_creator, entered, leaf_fault, left_hash_leaf, left_hash, closed, read, passed, step_skipping, step, steps, ended_base, ended_skipping, ◌>>=◌}
+use Rattle.mhl_reader.specs.Reading.{text_fault, markup_fault, FaultAt, FirstFault}
 use Rattle.mhl_reader.proofs.Steps.{steps_none, steps_more}
 
 abbrev Never : {A : Type 0} → Result A ReadError → Type 0

@@ -37,11 +37,11 @@ ok s = Ok s
 pub begun : (bytes rest : List ℕ) (s : State) → start_of bytes ≤ length bytes → rest ≡ drop (start_of bytes) bytes → s ≡ nothing_open → Scanned bytes rest s
 begun bytes rest s within rest_is is = record { start = within; done = []; each = tt; whole = sym rest_is; leads = steps_none nothing_open ∙ ap (λ (s : State). ok s) (sym is) }
 
-all_append : (ps qs : List Piece) → AllByRecursion IsPiece ps → AllByRecursion IsPiece qs → AllByRecursion IsPiece (ps ++ qs)
+pub all_append : (ps qs : List Piece) → AllByRecursion IsPiece ps → AllByRecursion IsPiece qs → AllByRecursion IsPiece (ps ++ qs)
 all_append [] qs h k = k
 all_append (p ∷ ps) qs h k = (h.0, all_append ps qs h.1 k)
 
-placed_append : (place : ℕ) (ps qs : List Piece) → placed place (ps ++ qs) ≡ placed place ps ++ placed (place + length (flat_map spelled ps)) qs
+pub placed_append : (place : ℕ) (ps qs : List Piece) → placed place (ps ++ qs) ≡ placed place ps ++ placed (place + length (flat_map spelled ps)) qs
 placed_append place [] qs = let here : place ≡ place + 0 = omega arith in ap (λ (n : ℕ). placed n qs) here
 placed_append place (p ∷ ps) qs =
     let there : place + length (spelled p) + length (flat_map spelled ps) ≡ place + length (spelled p ++ flat_map spelled ps) = omega (arith, length-append (spelled p) (flat_map spelled ps)) in
