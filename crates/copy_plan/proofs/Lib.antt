@@ -11,3 +11,4 @@ pub mod Taken
 pub mod Arranged
 pub mod Whole
 pub mod Lengths
+pub mod Bounds

@@ -2,7 +2,7 @@
 
 ghost use Rattle.std.specs.Prelude.{◌≡◌, ◌++◌, ◌∷◌, [], ◌+◌, ◌*◌, ◌<◌, ◌≤◌, length, option_map, OnOk, IfOk};
 ghost use Rattle.std.specs.List.{flat_map};
-ghost use Rattle.copy_plan.specs.Fields.{moment_code, label_code, path_code, choice_code, kinds_code, source_code, file_code, is_plain, plan_code};
+ghost use Rattle.copy_plan.specs.Fields.{moment_code, label_code, path_code, choice_code, kinds_code, source_code, file_code, is_plain, plan_code, largest_code};
 
 use crate::file::PlannedFile;
 use crate::plan::Plan;
@@ -164,10 +164,10 @@ fn files_len(files: &[PlannedFile]) -> u64
     len
 }
 
-/// The length of the code of a plan in bytes, below 300,000,000. Takes no memory.
+/// The length of the code of a plan in bytes, at most 38,274,266. Takes no memory.
 pub fn encoded_len(plan: &Plan) -> u64
     ensures value { result ≡ length (plan_code plan.now) }
-    ensures bound { result < 300000000 }
+    ensures bound { result ≤ largest_code }
 {
     let labels = label_len(plan.name()) + label_len(plan.user()) + label_len(plan.host());
     let choice = choice_len(plan.kinds(), plan.source_list());

@@ -17,5 +17,5 @@ pub use encoding::{encode, encoded_len};
 pub use fields::{eight_bytes, four_bytes, moment};
 pub use file::PlannedFile;
 pub use inventory::{BuildError, Inventory, MOST_FILES};
-pub use laws::one_plan;
+pub use laws::{one_plan, short_code};
 pub use plan::{Plan, PlanMakeError};

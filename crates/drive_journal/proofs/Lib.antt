@@ -9,3 +9,4 @@ pub mod Records
 pub mod Entries
 pub mod Looked
 pub mod Journals
+pub mod Bounds

@@ -27,6 +27,10 @@ use Rattle.drive_journal.specs.Journal.{HoldsJournal, JournalFault}
 abbrev pub largest_journal : ℕ
 largest_journal = 67_108_864
 
+-- the most bytes of a journal that an offload writes, its closed gate with it: a plan, and 65 bytes for each file
+abbrev pub longest_journal : ℕ
+longest_journal = 55_313_627
+
 -- the gate of the next record, in a journal of this plan with so many records
 abbrev pub next_gate : PlanValue → ℕ → Gate
 next_gate p k = record { at = length (plan_code p) + 65 * k; index = k }
