@@ -1,6 +1,6 @@
 -- What a step leaves on the way, call by call, and what its calls make of a drive.
 use Rattle.std.proofs.Common.{◌≡◌, ◌≢◌, ℕ, Bool, true, false, List, [], ◌++◌, refl, sym, ap, ◌∙◌, subst, true≢false}
-use Rattle.std.specs.Prelude.{Option, Some, unwrap_or}
+use Rattle.std.specs.Prelude.{Option, Some, unwrap_or, Result, Ok, Err, OnOk, is_ok}
 use Rattle.std.specs.FinMap.{get}
 use Rattle.std.specs.Cmp.Lexicographic.{other_text}
 use Rattle.bay_core.specs.declared.event.Event.{Event}
@@ -11,7 +11,7 @@ use Rattle.bay_core.specs.Paths.{journal_path, part_path}
 use Rattle.bay_core.specs.Replay.{Drive, reads}
 use Rattle.bay_core.specs.Torn.{Torn}
 use Rattle.bay_core.specs.Went.{Only, Tried}
-use Rattle.bay_core.specs.World.{World}
+use Rattle.bay_core.specs.World.{World, Honest}
 use Rattle.bay_core.proofs.Crash.{front_goes, left_any, left_keeps, calls_all}
 use Rattle.bay_core.proofs.Crashing.{IsOneOf, goes_one}
 use Rattle.bay_core.proofs.Readable.{reads_left}
@@ -38,6 +38,16 @@ rests_so d Pre P Q {ok} {old} {new} so rests = record {
   done = λ y m before all honest pre now.
       let r = rests.done y m before all honest tt now in
       (r.0, so (reads m before d) (reads m all d) pre r.1);
+}
+
+-- a premise that Ok itself gives
+pub rests_given : (d : ℕ) (Pre : Map → Type 0) (P : Map → Map → Type 0) {T E : Type 0} (result : Result T E) {old new : World} → ((m : Map) (L : List Event) → Honest old d m L → OnOk result (Pre (reads m L d))) → Rests d Pre P (is_ok result) old new
+    → Rests d IsAny P (is_ok result) old new
+rests_given d Pre P (Ok v) {old} {new} given rests = record {
+  done = λ y m before all honest any now. rests.done y m before all honest (given m before honest) now;
+}
+rests_given d Pre P (Err e) {old} {new} given rests = record {
+  done = λ y m before all honest any now. absurd (cc y);
 }
 
 pub journal_not_part : journal_path ≢ part_path

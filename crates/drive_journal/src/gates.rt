@@ -1,7 +1,11 @@
 // A file gets its path and its record, and the record counts once its gate is opened.
-ghost use Rattle.std.specs.Prelude.{◌≡◌, ◌+◌, ◌<◌, ◌≤◌, false, is_ok, IfOk};
+ghost use Rattle.std.specs.Prelude.{◌≡◌, ℕ, ◌+◌, ◌<◌, ◌≤◌, false, List, is_ok, IfOk, OnOk};
+ghost use Rattle.bay_core.specs.declared.event.Event.{Event};
 ghost use Rattle.bay_core.specs.Crashes.{Leaves, Rests, IsAny};
+ghost use Rattle.bay_core.specs.Map.{Map};
+ghost use Rattle.bay_core.specs.Replay.{reads};
 ghost use Rattle.bay_core.specs.Went.{Tried};
+ghost use Rattle.bay_core.specs.World.{Honest};
 ghost use Rattle.path_text.specs.Path.{is_control_path};
 ghost use Rattle.drive_journal.specs.Calls.{place_calls, open_calls};
 ghost use Rattle.drive_journal.specs.Record.{closed_record};
@@ -37,7 +41,7 @@ pub fn place<B: Bay>(
     // A stop at any moment leaves all as it was but the part, the path and what is behind the gate.
     ensures crash { Leaves d IsAny (IsPlacing gate.now.at path.now) (B.world bay.old) (B.world bay.new) }
     // After Ok the drive is at rest with the file at its path and the record behind the gate.
-    ensures rests { Rests d HasPart (IsPlaced gate.now.at path.now rec.now) (is_ok result) (B.world bay.old) (B.world bay.new) }
+    ensures rests { Rests d IsAny (IsPlaced gate.now.at path.now rec.now) (is_ok result) (B.world bay.old) (B.world bay.new) }
 {
     let bytes = record_bytes(rec);
     put_in_place(bay, d, gate.at, path.as_str(), &bytes)
@@ -53,7 +57,8 @@ fn put_in_place<B: Bay>(
 ) -> Result<(), DriveFailed>
     requires drive { d < (B.world bay.old).attached.drives }
     requires at { gate ≤ 67_108_864 }
-    ensures { Tried d (place_calls d gate path.now bytes.now) (is_ok result) (B.world bay.old) (B.world bay.new) }
+    ensures tried { Tried d (place_calls d gate path.now bytes.now) (is_ok result) (B.world bay.old) (B.world bay.new) }
+    ensures there { (m : Map) (L : List Event) → Honest (B.world bay.old) d m L → OnOk result (HasPart (reads m L d)) }
 {
     bay.rename(d, PART, path)?;
     bay.write(d, JOURNAL, gate + 1, bytes)?;
