@@ -5,7 +5,6 @@ use Rattle.copy_plan.specs.Plan.{PlanValue, IsPlan}
 use Rattle.copy_plan.specs.Fields.{plan_code}
 use Rattle.copy_plan.proofs.Bounds.{code_most}
 use Rattle.drive_journal.specs.declared.record.Rec.{Rec}
-use Rattle.drive_journal.specs.Record.{record_code}
 use Rattle.drive_journal.specs.Journal.{AreRecords, open_record, records_code, journal_code}
 use Rattle.drive_journal.specs.Look.{longest_journal, next_gate}
 use Rattle.drive_journal.proofs.Entries.{records_few}

@@ -8,5 +8,6 @@ pub mod Removing
 pub mod Records
 pub mod Entries
 pub mod Looked
+pub mod Settled
 pub mod Journals
 pub mod Bounds

@@ -1,15 +1,14 @@
 -- What looking at a drive finds: docs/FORMATS.md, "The journal".
 use Rattle.std.specs.Prelude.{◌≡◌, ◌⊎◌, ℕ, ◌+◌, ◌*◌, ◌<◌, ◌≤◌, List, length, Option, Some, None, is_some, true}
 use Rattle.std.specs.FinMap.{get}
+use Rattle.bay_core.specs.declared.event.Event.{Event}
 use Rattle.bay_core.specs.declared.event.FileInfo.{FileInfo}
 use Rattle.bay_core.specs.Map.{Map}
 use Rattle.bay_core.specs.Paths.{journal_path}
-use Rattle.bay_core.specs.Replay.{Drive}
-use Rattle.bay_core.specs.World.{World}
+use Rattle.bay_core.specs.Left.{IsSettled}
+use Rattle.bay_core.specs.Replay.{Drive, reads}
+use Rattle.bay_core.specs.World.{World, Honest}
 use Rattle.folder_listing.specs.Listing.{listing}
-use Rattle.file_reading.specs.declared.listed.Content.{Content}
-use Rattle.file_reading.specs.declared.listed.Content.TheVariants.{Bytes, Unlisted, Absent, TooLarge}
-use Rattle.file_reading.specs.Listed.{FileListed}
 use Rattle.file_reading.specs.Reads.{Halted}
 use Rattle.copy_plan.specs.Plan.{PlanValue, list_of}
 use Rattle.copy_plan.specs.Fields.{plan_code}
@@ -22,10 +21,7 @@ use Rattle.drive_journal.specs.declared.journal.JournalError.TheVariants.{NotAJo
 use Rattle.drive_journal.specs.declared.looking.LookError.{LookError}
 use Rattle.drive_journal.specs.declared.looking.LookError.TheVariants.{DriveFailed, NotAJournal, Memory}
 use Rattle.drive_journal.specs.Journal.{HoldsJournal, JournalFault}
-
--- the most bytes of a journal that is read
-abbrev pub largest_journal : ℕ
-largest_journal = 67_108_864
+use Rattle.drive_journal.specs.Found.{largest_journal, JournalFound, NoJournal, Journal, Vanished, TooLong, Seen}
 
 -- the most bytes of a journal that an offload writes, its closed gate with it: a plan, and 65 bytes for each file
 abbrev pub longest_journal : ℕ
@@ -53,43 +49,38 @@ IsListed files q = is_some (get (listing files) q) ≡ true
 abbrev pub IsThereIn : Map → List ℕ → Type 0
 IsThereIn m q = is_some (get m q) ≡ true
 
--- the bytes of a journal that was read, and none where there is no journal
-abbrev pub journal_found : Content → Option (List ℕ)
-journal_found (Bytes bytes) = Some bytes.items
-journal_found _ = None
-
 -- The state by what was found of the journal: none is listed, or its bytes were read.
-abbrev pub FoundState : List FileInfo → Content → State → Type 0
-FoundState files (Bytes bytes) state = StateIs (IsListed files) (Some bytes.items) state
-FoundState files Unlisted state = StateIs (IsListed files) None state
-FoundState files Absent state = ⊥
-FoundState files (TooLarge len) state = ⊥
+abbrev pub FoundState : List FileInfo → JournalFound → State → Type 0
+FoundState files NoJournal state = StateIs (IsListed files) None state
+FoundState files (Journal bytes) state = StateIs (IsListed files) (Some bytes) state
+FoundState files Vanished state = ⊥
+FoundState files TooLong state = ⊥
 
 -- The place that is answered for what holds no journal: that of the fault of its bytes, 0 where a read of it answered that there is none,
 -- and the limit where it is too long.
-abbrev pub FoundFault : Content → ℕ → Type 0
-FoundFault (Bytes bytes) at = JournalFault bytes.items at
-FoundFault Unlisted at = ⊥
-FoundFault Absent at = at ≡ 0
-FoundFault (TooLarge len) at = at ≡ largest_journal
+abbrev pub FoundFault : JournalFound → ℕ → Type 0
+FoundFault NoJournal at = ⊥
+FoundFault (Journal bytes) at = JournalFault bytes at
+FoundFault Vanished at = at ≡ 0
+FoundFault TooLong at = at ≡ largest_journal
 
 -- why no state was found: the place of what holds no journal, or want of memory
-abbrev pub FoundFails : Content → JournalError → Type 0
-FoundFails content (HoldsNone at) = FoundFault content at
-FoundFails content Wanting = Unit {0}
+abbrev pub FoundFails : JournalFound → JournalError → Type 0
+FoundFails found (HoldsNone at) = FoundFault found at
+FoundFails found Wanting = Unit {0}
 
--- a look at drive d that found this state: the listing that is answered, the reads of the journal, and the state by both
+-- a look at drive d that found this state: the listing that is answered, the journal, and the state by both
 pub record Looked (d : ℕ) (files : List FileInfo) (state : State) (old new : World) : Type 0 where
-  pub content : Content
-  pub listed : FileListed largest_journal d journal_path files content old new
-  pub state_is : FoundState files content state
+  pub found : JournalFound
+  pub seen : Seen d files found old new
+  pub state_is : FoundState files found state
 
 -- a look at drive d that found no journal where one is listed
 pub record NotLooked (d at : ℕ) (old new : World) : Type 0 where
   pub files : List FileInfo
-  pub content : Content
-  pub listed : FileListed largest_journal d journal_path files content old new
-  pub fault : FoundFault content at
+  pub found : JournalFound
+  pub seen : Seen d files found old new
+  pub fault : FoundFault found at
 
 -- a look at drive d that found no state: no journal where one is listed, a call on the drive that failed, or want of memory
 abbrev pub LookFails : ℕ → LookError → World → World → Type 0
@@ -106,3 +97,8 @@ abbrev pub HonestFails : Map → LookError → Type 0
 HonestFails m (NotAJournal at) = HasNoJournal m at
 HonestFails m DriveFailed = Unit {0}
 HonestFails m Memory = Unit {0}
+
+-- what is read of drive d is as before, and it is settled if it was
+pub record StaysSettled (d : ℕ) (old new : World) : Type 0 where
+  pub same : (m : Map) (before all : List Event) → Honest old d m before → new.events ≡ Some all → reads m all d ≡ reads m before d
+  pub settled : (m : Map) (before all : List Event) → Honest old d m before → new.events ≡ Some all → IsSettled m before d → IsSettled m all d

@@ -42,6 +42,8 @@ pub fn place<B: Bay>(
     ensures crash { Leaves d IsAny (IsPlacing gate.now.at path.now) (B.world bay.old) (B.world bay.new) }
     // After Ok the drive is at rest with the file at its path and the record behind the gate.
     ensures rests { Rests d IsAny (IsPlaced gate.now.at path.now rec.now) (is_ok result) (B.world bay.old) (B.world bay.new) }
+    // On an honest drive Ok says that the part was there.
+    ensures there { (m : Map) (L : List Event) → Honest (B.world bay.old) d m L → OnOk result (HasPart (reads m L d)) }
 {
     let bytes = record_bytes(rec);
     put_in_place(bay, d, gate.at, path.as_str(), &bytes)

@@ -1,8 +1,13 @@
 // Laws of journals. Each is the contract of a function that does nothing.
-ghost use Rattle.std.specs.Prelude.{◌≡◌, ℕ, ◌+◌, ◌<◌, ◌≤◌, List, length};
+ghost use Rattle.std.specs.Prelude.{◌≡◌, ℕ, ◌+◌, ◌<◌, ◌≤◌, List, [], ◌++◌, length, Some};
+ghost use Rattle.bay_core.specs.declared.event.Event.{Event};
+ghost use Rattle.bay_core.specs.declared.event.FileInfo.{FileInfo};
+ghost use Rattle.bay_core.specs.Replay.{calls_on};
+ghost use Rattle.bay_core.specs.World.{World};
 ghost use Rattle.copy_plan.specs.Inventory.{most_files};
 ghost use Rattle.copy_plan.specs.Plan.{PlanValue, IsPlan};
 ghost use Rattle.drive_journal.specs.declared.record.Rec.{Rec};
+ghost use Rattle.drive_journal.specs.Found.{JournalFound, Seen, IsLookedAt};
 ghost use Rattle.drive_journal.specs.Journal.{AreRecords, journal_code, HoldsJournal, JournalFault};
 ghost use Rattle.drive_journal.specs.Look.{longest_journal, next_gate};
 
@@ -19,4 +24,9 @@ pub fn short_journal()
     ensures bytes { (p : PlanValue) (recs : List Rec) → IsPlan p → AreRecords 0 p.files recs → length (journal_code p recs) + 1 ≤ longest_journal }
     ensures at { (p : PlanValue) (k : ℕ) → IsPlan p → k ≤ length p.files → (next_gate p k).at < longest_journal }
     ensures index { (p : PlanValue) (k : ℕ) → IsPlan p → k < length p.files → (next_gate p k).index < most_files }
+{}
+
+/// A drive on which no call was made before a look is found as the look saw it, whatever comes behind.
+pub fn first_look()
+    ensures { (d : ℕ) (files : List FileInfo) (found : JournalFound) (old new : World) (before all more : List Event) → Seen d files found old new → old.events ≡ Some before → new.events ≡ Some all → calls_on d before ≡ [] → IsLookedAt d (all ++ more) files found }
 {}

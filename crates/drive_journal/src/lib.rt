@@ -17,7 +17,7 @@ mod tests;
 mod tidying;
 
 pub use gates::{open_gate, place};
-pub use laws::{one_journal, short_journal};
+pub use laws::{first_look, one_journal, short_journal};
 pub use looking::{LookError, look};
 pub use order::{DriveStart, Listed, Order};
 pub use publishing::publish;

@@ -9,8 +9,9 @@ ghost use Rattle.bay_core.specs.Replay.{Drive, reads};
 ghost use Rattle.bay_core.specs.Went.{Went, Only};
 ghost use Rattle.bay_core.specs.World.{Honest, Rose};
 ghost use Rattle.drive_journal.specs.declared.looking.LookError.TheVariants.{DriveFailed};
+ghost use Rattle.drive_journal.specs.Found.{found_of};
 ghost use Rattle.drive_journal.specs.Journal.{HoldsJournal};
-ghost use Rattle.drive_journal.specs.Look.{next_gate, StateIs, IsListed, IsThereIn, FoundState, FoundFails, Looked, LookFails, HonestFails};
+ghost use Rattle.drive_journal.specs.Look.{next_gate, StateIs, IsListed, IsThereIn, FoundState, FoundFails, Looked, LookFails, HonestFails, StaysSettled};
 
 use crate::gates::JOURNAL;
 use crate::journal::{Journal, JournalError, read_journal};
@@ -60,7 +61,7 @@ fn state_with(files: &[FileInfo], journal: Journal) -> State
 
 // How far a drive with this listing has come, by what its journal was found to be.
 fn state_of(alloc: Global, files: &[FileInfo], content: Content) -> Result<State, JournalError>
-    ensures { MatchResult result (FoundState files.now content) (FoundFails content) }
+    ensures { MatchResult result (FoundState files.now (found_of content)) (FoundFails (found_of content)) }
 {
     match content {
         Content::Bytes(bytes) => match read_journal(alloc, &bytes) {
@@ -107,7 +108,9 @@ pub fn look<B: Bay>(alloc: Global, bay: &mut B, d: u32) -> Result<Look, LookErro
     requires { d < (B.world bay.old).attached.drives }
     ensures looked { MatchResult result (λ look. Looked d look.listing.items look.state (B.world bay.old) (B.world bay.new)) (λ e. LookFails d e (B.world bay.old) (B.world bay.new)) }
     // Nothing but the drive is called, and nothing is changed, whatever the answer.
-    ensures went { Went (Only (Drive d)) IsUntouched (B.world bay.old) (B.world bay.new) }
+    ensures went { Went (Only (Drive d)) NoChange (B.world bay.old) (B.world bay.new) }
+    // So an honest drive is settled if it was.
+    ensures settled { StaysSettled d (B.world bay.old) (B.world bay.new) }
     ensures cause { result ≡ Err DriveFailed → Rose ((B.world bay.old).faults (Drive d)) ((B.world bay.new).faults (Drive d)) }
     // What an honest drive has.
     ensures honest { (m : Map) (L : List Event) → Honest (B.world bay.new) d m L → MatchResult result (λ look. StateIs (IsThereIn (reads m L d)) (get (reads m L d) journal_path) look.state) (HonestFails (reads m L d)) }
