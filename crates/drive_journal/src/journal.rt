@@ -12,6 +12,7 @@ use crate::record::{Gate, Rec};
 use copy_plan::{Decoded, Plan, PlanError, PlannedFile, decode, eight_bytes, four_bytes, moment};
 use digest_set::Triple;
 use std::alloc::Global;
+use thiserror::Error;
 
 // The bytes of a record and its gate.
 const RECORD_BYTES: u64 = 65;
@@ -28,9 +29,11 @@ pub struct Journal {
 }
 
 /// Why bytes could not be read as a journal.
-#[derive(Clone, Copy, Debug)]
+#[derive(Clone, Copy, Debug, Error)]
 pub enum JournalError {
+    #[error("no journal: wrong at byte {at}")]
     NotAJournal { at: u64 },
+    #[error("out of memory")]
     Memory,
 }
 
