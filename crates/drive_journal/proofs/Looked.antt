@@ -5,7 +5,7 @@ use Rattle.std.specs.FinMap.{get}
 use Rattle.bay_core.specs.declared.event.Event.{Event}
 use Rattle.bay_core.specs.declared.event.FileInfo.{FileInfo}
 use Rattle.bay_core.specs.declared.event.Event.TheVariants.{DriveList}
-use Rattle.bay_core.specs.Looks.{NoChange, Looks}
+use Rattle.bay_core.specs.Looks.{IsUntouched, Looks}
 use Rattle.bay_core.specs.Map.{Map}
 use Rattle.bay_core.specs.Paths.{journal_path}
 use Rattle.bay_core.specs.Replay.{Drive, calls_on, reads}
@@ -84,7 +84,7 @@ look_calls : (d : ℕ) (files : List FileInfo) (found : JournalFound) (L : List 
 look_calls d files found L c =
     subst Looks (sym c.is) (looks_append (DriveList d (Some files) ∷ []) c.reads (one_look (DriveList d (Some files)) refl) (reads_look d (get (listing files) journal_path) found c.reads c.such))
 
-seen_keeps : (d : ℕ) (files : List FileInfo) (found : JournalFound) {old new : World} → Seen d files found old new → Went (Only (Drive d)) NoChange old new
+seen_keeps : (d : ℕ) (files : List FileInfo) (found : JournalFound) {old new : World} → Seen d files found old new → Went (Only (Drive d)) IsUntouched old new
 seen_keeps d files found s = went_such (λ L t. looks_keep L (look_calls d files found L t)) s.went
 
 -- looks of which none failed
@@ -97,7 +97,7 @@ seen_halted d files found s = record {
 abbrev Answered : ℕ → Result Look LookError → World → World → Type 0
 Answered d result old new = MatchResult result (λ look. Looked d look.listing.items look.state old new) (λ e. LookFails d e old new)
 
-pub look_keeps : (d : ℕ) (result : Result Look LookError) (old new : World) → Answered d result old new → Went (Only (Drive d)) NoChange old new
+pub look_keeps : (d : ℕ) (result : Result Look LookError) (old new : World) → Answered d result old new → Went (Only (Drive d)) IsUntouched old new
 look_keeps d (Ok look) old new a = seen_keeps d look.listing.items a.found a.seen
 look_keeps d (Err (NotAJournal at)) old new a = seen_keeps d a.files a.found a.seen
 look_keeps d (Err DriveFailed) old new a = went_such (stops_keep (Some (Drive d))) a.went

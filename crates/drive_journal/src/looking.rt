@@ -108,7 +108,7 @@ pub fn look<B: Bay>(alloc: Global, bay: &mut B, d: u32) -> Result<Look, LookErro
     requires { d < (B.world bay.old).attached.drives }
     ensures looked { MatchResult result (λ look. Looked d look.listing.items look.state (B.world bay.old) (B.world bay.new)) (λ e. LookFails d e (B.world bay.old) (B.world bay.new)) }
     // Nothing but the drive is called, and nothing is changed, whatever the answer.
-    ensures went { Went (Only (Drive d)) NoChange (B.world bay.old) (B.world bay.new) }
+    ensures went { Went (Only (Drive d)) IsUntouched (B.world bay.old) (B.world bay.new) }
     // So an honest drive is settled if it was.
     ensures settled { StaysSettled d (B.world bay.old) (B.world bay.new) }
     ensures cause { result ≡ Err DriveFailed → Rose ((B.world bay.old).faults (Drive d)) ((B.world bay.new).faults (Drive d)) }
