@@ -6,5 +6,5 @@ mod slot;
 #[cfg(test)]
 mod tests;
 
-pub use pool::{BLOCK_BYTES, NoMemory, Pool};
+pub use pool::{BLOCK_BYTES, Pool};
 pub use slot::Slot;

@@ -7,9 +7,6 @@ use crate::Slot;
 use std::alloc::{AllocError, Global};
 use std::marker::Model;
 
-/// Want of memory.
-pub type NoMemory = AllocError;
-
 /// The size of a block, in bytes.
 pub const BLOCK_BYTES: usize = 65536;
 
@@ -33,7 +30,7 @@ impl Model for Pool {
 
 impl Pool {
     /// A region of this many blocks, all of them free. No other call takes memory.
-    pub fn new(alloc: Global, blocks: u32) -> Result<Pool, NoMemory>
+    pub fn new(alloc: Global, blocks: u32) -> Result<Pool, AllocError>
         requires some { 1 ≤ blocks }
         requires few { blocks ≤ 4096 }
         ensures { IfOk result (λ pool. pool.lent ≡ replicate blocks false) }
