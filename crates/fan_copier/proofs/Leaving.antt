@@ -22,7 +22,7 @@ use Rattle.fan_copier.specs.declared.turn.Turn.{Turn}
 use Rattle.fan_copier.specs.declared.turn.Turn.TheVariants.{Going, Dropped, Copied, SourceFailed, Changed}
 use Rattle.fan_copier.specs.Standing.{Standing, block_len, block_of}
 use Rattle.fan_copier.specs.Reads.{File, OnCard, OnDrive, gave, failed, IsAbsent, GaveNone, MayFail, Tiles, EndsAt, CutAt, Gathered}
-use Rattle.fan_copier.specs.Turning.{Doing, EmptyPiece, Acting, MendCalls, WriteCalls, PutCalls, ReadCalls, PastCalls, CardGave, ActCalls, TurnCalls, IsCopyCall, AreCopyCalls}
+use Rattle.fan_copier.specs.Turning.{Doing, EmptyPiece, Acting, MendCalls, WriteCalls, PutCalls, ReadCalls, PastCalls, ReadsOneByte, FailsAtOneByte, ActCalls, TurnCalls, IsCopyCall, AreCopyCalls}
 
 -- the calls of two runs
 pub copy_calls_append : (s : ℕ) (path : List ℕ) (A B : List Event) → AreCopyCalls s path A → AreCopyCalls s path B → AreCopyCalls s path (A ++ B)
@@ -132,14 +132,18 @@ read_copy s path at block (Ok None) L t = tiles_copy s path (OnCard s path) (ref
 read_copy s path at block (Ok (Some n)) L t = ends_copy s path (OnCard s path) (refl, refl) at (length block) (take (n - at) block) L t
 read_copy s path at block (Err e) L t = cut_copy s path (OnCard s path) (refl, refl) at (length block) L t
 
-card_gave_copy : (s : ℕ) (path : List ℕ) (at : ℕ) (bytes : List ℕ) (L : List Event) → CardGave s path at bytes L → AreCopyCalls s path L
-card_gave_copy s path at bytes L (asked, one) = one_copy s path (gave (OnCard s path) at asked bytes) L one (refl, refl)
+byte_copy : (s : ℕ) (path : List ℕ) (at : ℕ) (got : Option (List ℕ)) (L : List Event) → ReadsOneByte s path at got L → AreCopyCalls s path L
+byte_copy s path at got L one = one_copy s path (SourceRead s path at 1 got) L one (refl, refl)
+
+no_byte_copy : (s : ℕ) (path : List ℕ) (at : ℕ) (L : List Event) → FailsAtOneByte s path at L → AreCopyCalls s path L
+no_byte_copy s path at L (inl none) = none_copy s path L none
+no_byte_copy s path at L (inr one) = byte_copy s path at None L one
 
 -- the read of a byte at the size
 pub past_copy : (s : ℕ) (path : List ℕ) (size : ℕ) (r : Result (Option ℕ) Failed) (L : List Event) → PastCalls s path size r L → AreCopyCalls s path L
-past_copy s path size (Ok None) L t = gave_none_copy s path (OnCard s path) (refl, refl) size L t
-past_copy s path size (Ok (Some byte)) L t = card_gave_copy s path size (byte ∷ []) L t
-past_copy s path size (Err e) L t = may_fail_copy s path (OnCard s path) (refl, refl) size L t
+past_copy s path size (Ok None) L t = byte_copy s path size (Some []) L t
+past_copy s path size (Ok (Some byte)) L t = byte_copy s path size (Some (byte ∷ [])) L t
+past_copy s path size (Err e) L t = no_byte_copy s path size L t
 
 -- the calls of an act
 act_copy : (s : ℕ) (path : List ℕ) (size : ℕ) (at now : Standing) (bytes given : List ℕ) (act : Act) (result : Turn) (L : List Event) → ActCalls s path size at now bytes given act result L → AreCopyCalls s path L
@@ -148,9 +152,9 @@ act_copy s path size at now bytes given Read (Changed listed read) L t = ends_co
 act_copy s path size at now bytes given Read SourceFailed L t = cut_copy s path (OnCard s path) (refl, refl) (at.counts.read * 65536) (block_len size at.counts.read) L t.1
 act_copy s path size at now bytes given (Write d k) Going L t = write_copy s path (has at.kept d) (has now.kept d) true d (k * 65536) (block_of bytes k) L t.1
 act_copy s path size at now bytes given (Write d k) (Dropped e) L t = write_copy s path (has at.kept d) (has now.kept d) false d (k * 65536) (block_of bytes k) L t.1
-act_copy s path size at now bytes given Finished (Copied digests) L t = gave_none_copy s path (OnCard s path) (refl, refl) size L t.1
-act_copy s path size at now bytes given Finished (Changed listed read) L t = card_gave_copy s path size given L t.0
-act_copy s path size at now bytes given Finished SourceFailed L t = may_fail_copy s path (OnCard s path) (refl, refl) size L t.1
+act_copy s path size at now bytes given Finished (Copied digests) L t = byte_copy s path size (Some []) L t.1
+act_copy s path size at now bytes given Finished (Changed listed read) L t = byte_copy s path size (Some given) L t.0
+act_copy s path size at now bytes given Finished SourceFailed L t = no_byte_copy s path size L t.1
 act_copy s path size at now bytes given act result L t = absurd t
 
 -- the calls of a turn
@@ -162,7 +166,7 @@ turn_copy s path size at now bytes given (Acting p act) result L t =
     then_copy s path L (λ K k. one_copy s path (Pick p) K k tt) (λ K k. act_copy s path size at now bytes given act result K k) t
 
 -- the calls on one drive among these
-on_copy : (s : ℕ) (path : List ℕ) (d : ℕ) (L : List Event) → AreCopyCalls s path L → AreCopyCalls s path (calls_on d L)
+pub on_copy : (s : ℕ) (path : List ℕ) (d : ℕ) (L : List Event) → AreCopyCalls s path L → AreCopyCalls s path (calls_on d L)
 unfolding AreCopyCalls
 on_copy s path d [] all = tt
 on_copy s path d (e ∷ L) all = kept (is_on d (device_of e)) (on_copy s path d L all.1) where

@@ -10,17 +10,17 @@ use Rattle.bay_core.specs.Went.{Called, CardReadCall}
 use Rattle.bay_core.proofs.Runs.{went_such}
 use Rattle.fan_copier.specs.Turning.{PastCalls}
 
-pub past_cut : (s : ℕ) (path : List ℕ) (size : ℕ) (into : List ℕ) (e : Failed) (r : Result (Option ℕ) Failed) (Q : Failed → Type 0) {w0 w1 : World} → IsErrAnd r Q
+pub past_cut : (s : ℕ) (path : List ℕ) (size : ℕ) (into : List ℕ) (e : Failed) (r : Result (Option ℕ) Failed) (Q : Failed → Type 0) {w0 w1 : World} → length into ≡ 1 → IsErrAnd r Q
     → Called (Source s) (CardReadCall s path size into (Err e)) false w0 w1 → Called (Source s) (PastCalls s path size r) (is_ok r) w0 w1
-past_cut s path size into e r Q {w0} {w1} is one =
+past_cut s path size into e r Q {w0} {w1} one_long is one =
     let p = err_from_is_err_and r is in
     subst (λ q. Called (Source s) (PastCalls s path size q) (is_ok q) w0 w1) (sym p.1)
-    (record { went = went_such (λ L seen. elim seen [ inl none ↦ inl none | inr is ↦ inr (length into, is) ]) one.went; cause = λ _. one.cause refl })
+    (record { went = went_such (λ L seen. elim seen [ inl none ↦ inl none | inr is ↦ inr (is ∙ ap (λ n. SourceRead s path size n None ∷ []) one_long) ]) one.went; cause = λ _. one.cause refl })
 
-pub past_none : (s : ℕ) (path : List ℕ) (size n : ℕ) (into : List ℕ) {w0 w1 : World} → n ≡ 0 → 0 < length into → Called (Source s) (CardReadCall s path size into (Ok n)) true w0 w1
+pub past_none : (s : ℕ) (path : List ℕ) (size n : ℕ) (into : List ℕ) {w0 w1 : World} → n ≡ 0 → length into ≡ 1 → Called (Source s) (CardReadCall s path size into (Ok n)) true w0 w1
     → Called (Source s) (PastCalls s path size (Ok None)) true w0 w1
-past_none s path size n into none some one = record {
-  went = went_such (λ L is. (length into, some, SourceRead s path size (length into) (Some (take n into)), is, inl (ap (λ m. SourceRead s path size (length into) (Some (take m into))) none))) one.went;
+past_none s path size n into none one_long one = record {
+  went = went_such (λ L is. is ∙ (λ i. SourceRead s path size (one_long i) (Some (take (none i) into)) ∷ [])) one.went;
   cause = one.cause;
 }
 
@@ -37,6 +37,6 @@ one_byte (x ∷ y ∷ into) n size some = absurd (omega (arith, size))
 pub past_byte : (s : ℕ) (path : List ℕ) (size n : ℕ) (into : List ℕ) {w0 w1 : World} → 0 < n → length into ≡ 1 → Called (Source s) (CardReadCall s path size into (Ok n)) true w0 w1
     → Called (Source s) (PastCalls s path size (Ok (Some (slice_index into 0)))) true w0 w1
 past_byte s path size n into some one_long one = record {
-  went = went_such (λ L is. (length into, is ∙ ap (λ (l : List ℕ). SourceRead s path size (length into) (Some l) ∷ []) (one_byte into n one_long some))) one.went;
+  went = went_such (λ L is. is ∙ (λ i. SourceRead s path size (one_long i) (Some (one_byte into n one_long some i)) ∷ [])) one.went;
   cause = one.cause;
 }

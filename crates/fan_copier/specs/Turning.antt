@@ -18,7 +18,7 @@ use Rattle.fan_core.specs.Next.{next_act, acts_left, one_more_read, one_more_wri
 use Rattle.fan_copier.specs.declared.copy.FileCopy.{FileCopy}
 use Rattle.fan_copier.specs.declared.turn.Turn.{Turn}
 use Rattle.fan_copier.specs.declared.turn.Turn.TheVariants.{Going, Dropped, Copied, SourceFailed, Changed, NoDrive}
-use Rattle.fan_copier.specs.Reads.{AreAt, OnCard, OnDrive, gave, GaveNone, MayFail, Tiles, EndsAt, CutAt, Gathered}
+use Rattle.fan_copier.specs.Reads.{AreAt, OnCard, OnDrive, Tiles, EndsAt, CutAt, Gathered}
 use Rattle.fan_copier.specs.Standing.{Standing, block_len, block_of, place, at_place}
 use Rattle.fan_copier.specs.Copying.{standing, Copying, HoldsBlocks, PartIs}
 
@@ -86,9 +86,13 @@ WriteCalls true true true d at bytes L = Tiles (OnDrive d part_path) at L bytes
 WriteCalls true false true d at bytes L = MendCalls d at bytes true L
 WriteCalls true still false d at bytes L = CutAt (OnDrive d part_path) at (length bytes) L ⊎ MendCalls d at bytes false L
 
--- one read of the card that gave these bytes
-abbrev pub CardGave : ℕ → List ℕ → ℕ → List ℕ → List Event → Type 0
-CardGave s path at bytes L = (asked : ℕ) × (L ≡ gave (OnCard s path) at asked bytes ∷ [])
+-- one read of the card, which asked for one byte at this place, and what it gave: none where it failed
+abbrev pub ReadsOneByte : ℕ → List ℕ → ℕ → Option (List ℕ) → List Event → Type 0
+ReadsOneByte s path at got L = L ≡ SourceRead s path at 1 got ∷ []
+
+-- such a read that failed, seen or not
+abbrev pub FailsAtOneByte : ℕ → List ℕ → ℕ → List Event → Type 0
+FailsAtOneByte s path at L = (L ≡ []) ⊎ ReadsOneByte s path at None L
 
 -- the calls of an act, by what it came to, where these bytes were given before and those in it
 abbrev pub ActCalls : ℕ → List ℕ → ℕ → Standing → Standing → List ℕ → List ℕ → Act → Turn → List Event → Type 0
@@ -97,9 +101,9 @@ ActCalls s path size at now bytes given Read (Changed listed read) L = EndsAt (O
 ActCalls s path size at now bytes given Read SourceFailed L = (given ≡ []) × CutAt (OnCard s path) (at.counts.read * 65536) (block_len size at.counts.read) L
 ActCalls s path size at now bytes given (Write d k) Going L = (given ≡ []) × WriteCalls (has at.kept d) (has now.kept d) true d (k * 65536) (block_of bytes k) L
 ActCalls s path size at now bytes given (Write d k) (Dropped e) L = (given ≡ []) × WriteCalls (has at.kept d) (has now.kept d) false d (k * 65536) (block_of bytes k) L
-ActCalls s path size at now bytes given Finished (Copied t) L = (given ≡ []) × GaveNone (OnCard s path) size L
-ActCalls s path size at now bytes given Finished (Changed listed read) L = CardGave s path size given L × (length given ≡ 1)
-ActCalls s path size at now bytes given Finished SourceFailed L = (given ≡ []) × MayFail (OnCard s path) size L
+ActCalls s path size at now bytes given Finished (Copied t) L = (given ≡ []) × ReadsOneByte s path size (Some []) L
+ActCalls s path size at now bytes given Finished (Changed listed read) L = ReadsOneByte s path size (Some given) L × (length given ≡ 1)
+ActCalls s path size at now bytes given Finished SourceFailed L = (given ≡ []) × FailsAtOneByte s path size L
 ActCalls s path size at now bytes given act result L = ⊥
 
 -- the calls of a turn: the empty piece of the next drive, or one pick and just the act that follows from it
@@ -196,9 +200,9 @@ ReadCalls s path at block (Err e) L = CutAt (OnCard s path) at (length block) L
 
 -- one byte was asked for at the size: none came, or this one
 abbrev pub PastCalls : ℕ → List ℕ → ℕ → Result (Option ℕ) Failed → List Event → Type 0
-PastCalls s path size (Ok None) L = GaveNone (OnCard s path) size L
-PastCalls s path size (Ok (Some byte)) L = CardGave s path size (byte ∷ []) L
-PastCalls s path size (Err e) L = MayFail (OnCard s path) size L
+PastCalls s path size (Ok None) L = ReadsOneByte s path size (Some []) L
+PastCalls s path size (Ok (Some byte)) L = ReadsOneByte s path size (Some (byte ∷ [])) L
+PastCalls s path size (Err e) L = FailsAtOneByte s path size L
 
 -- the bytes of the next block, once it was read
 abbrev pub next_block : ℕ → Counts → List (Option ℕ) → PoolState → List ℕ

@@ -14,7 +14,7 @@ use Rattle.fan_copier.specs.declared.turn.Turn.TheVariants.{Going, Dropped, Copi
 use Rattle.fan_copier.specs.Reads.{OnCard, GaveNone, MayFail, Tiles, EndsAt}
 use Rattle.fan_copier.specs.Standing.{Standing, block_len, block_of}
 use Rattle.fan_copier.specs.Passed.{is_card, card_calls}
-use Rattle.fan_copier.specs.Turning.{Doing, EmptyPiece, Acting, ActCalls, TurnCalls}
+use Rattle.fan_copier.specs.Turning.{Doing, EmptyPiece, Acting, FailsAtOneByte, ActCalls, TurnCalls}
 use Rattle.fan_copier.proofs.Passing.{card_append, card_none, card_none_piece, card_none_pick}
 use Rattle.whole_copy.specs.Follows.{GoesOn, InOrder}
 
@@ -69,6 +69,10 @@ order_may_fail : (s : ℕ) (path : List ℕ) (at : ℕ) (L : List Event) → May
 order_may_fail s path at L (inl none) = order_none s path at L none
 order_may_fail s path at L (inr (asked, is)) = subst (λ n. ReadsFrom s path at n L) (omega arith) (order_one s path at asked None L is)
 
+order_no_byte : (s : ℕ) (path : List ℕ) (at : ℕ) (L : List Event) → FailsAtOneByte s path at L → ReadsFrom s path at at L
+order_no_byte s path at L (inl none) = order_none s path at L none
+order_no_byte s path at L (inr is) = order_may_fail s path at L (inr (1, is))
+
 order_then : (s : ℕ) (path : List ℕ) (at mid end : ℕ) {P Q : List Event → Type 0} (L : List Event) → ((A : List Event) → P A → ReadsFrom s path at mid A) → ((A : List Event) → Q A → ReadsFrom s path mid end A) → Then P Q L → ReadsFrom s path at end L
 order_then s path at mid end L here there t = subst (λ K. ReadsFrom s path at end K) (sym t.is) (order_append s path at mid end t.first t.second (here t.first t.here) (there t.second t.there))
 
@@ -99,11 +103,11 @@ act_order s path size at now bytes given Read SourceFailed L read done (none, (c
 act_order s path size at now bytes given (Write d k) Going L read done t = reads_none s path bytes given Going L t.0 (card_none s (has at.kept d) (has now.kept d) true d (k * 65536) (block_of bytes k) L t.1)
 act_order s path size at now bytes given (Write d k) (Dropped e) L read done t = reads_none s path bytes given (Dropped e) L t.0 (card_none s (has at.kept d) (has now.kept d) false d (k * 65536) (block_of bytes k) L t.1)
 act_order s path size at now bytes given Finished (Copied digests) L read done t =
-    reads_on s path (length bytes) (length bytes) (Copied digests) (length (bytes ++ given)) L (λ on. absurd on) (subst (λ n. ReadsFrom s path n n L) (done refl) (order_gave_none s path size L t.1))
-act_order s path size at now bytes given Finished (Changed listed n) L read done ((asked, is), one) =
-    reads_on s path (length bytes) (length bytes + length given) (Changed listed n) (length (bytes ++ given)) L (λ on. absurd on) (subst (λ n. ReadsFrom s path n (n + length given) L) (done refl) (order_one s path size asked (Some given) L is))
+    reads_on s path (length bytes) (length bytes + 0) (Copied digests) (length (bytes ++ given)) L (λ on. absurd on) (subst (λ n. ReadsFrom s path n (n + 0) L) (done refl) (order_one s path size 1 (Some []) L t.1))
+act_order s path size at now bytes given Finished (Changed listed n) L read done (is, one) =
+    reads_on s path (length bytes) (length bytes + length given) (Changed listed n) (length (bytes ++ given)) L (λ on. absurd on) (subst (λ n. ReadsFrom s path n (n + length given) L) (done refl) (order_one s path size 1 (Some given) L is))
 act_order s path size at now bytes given Finished SourceFailed L read done t =
-    reads_on s path (length bytes) (length bytes) SourceFailed (length (bytes ++ given)) L (λ on. absurd on) (subst (λ n. ReadsFrom s path n n L) (done refl) (order_may_fail s path size L t.1))
+    reads_on s path (length bytes) (length bytes) SourceFailed (length (bytes ++ given)) L (λ on. absurd on) (subst (λ n. ReadsFrom s path n n L) (done refl) (order_no_byte s path size L t.1))
 act_order s path size at now bytes given act r L read done t = absurd t
 
 -- the card's reads of a turn begin where those before it ended
