@@ -1,5 +1,5 @@
 -- A copy at its begin.
-use Rattle.std.proofs.Common.{◌≡◌, ◌⊎◌, inl, inr, ℕ, zero, suc, ◌+◌, ◌*◌, ◌≤◌, ◌<◌, Bool, true, false, List, [], ◌∷◌, length, take, slice_index, refl, sym, ap, subst, arith, ◌∙◌}
+use Rattle.std.proofs.Common.{◌≡◌, ◌⊎◌, inl, inr, ℕ, zero, suc, ◌+◌, ◌*◌, ◌≤◌, ◌<◌, Bool, true, false, not, ◌&&◌, List, [], ◌∷◌, length, take, slice_index, refl, sym, ap, subst, arith, ◌∙◌}
 use Rattle.bay_core.specs.World.{World}
 use Rattle.fan_core.specs.Flags.{has, count}
 use Rattle.fan_copier.specs.Standing.{Standing}
@@ -34,6 +34,16 @@ take_none (suc n) = refl
 either : (b : Bool) → (b ≡ true) ⊎ (b ≡ false)
 either true = inl refl
 either false = inr refl
+
+-- the drives of a set that are not among others, where none is above 7
+pub pieces_at_begin : (pieces drives kept : List Bool) → length drives ≡ 8 → ((d : ℕ) → has pieces d ≡ true → (has drives d ≡ true) × (has kept d ≡ false))
+    → ((d : ℕ) → d < 8 → has drives d ≡ true → has kept d ≡ false → has pieces d ≡ true) → (d : ℕ) → has pieces d ≡ (has drives d && not (has kept d))
+pieces_at_begin pieces drives kept eight within all d = by (has pieces d) (has drives d) (has kept d) refl refl refl where
+  by : (p l k : Bool) → has pieces d ≡ p → has drives d ≡ l → has kept d ≡ k → p ≡ (l && not k)
+  by true l k there live keeps = let w = within d there in sym (λ i. (sym live ∙ w.0) i && not ((sym keeps ∙ w.1) i))
+  by false false k there live keeps = refl
+  by false true true there live keeps = refl
+  by false true false there live keeps = let below = has_below drives d live in absurd (cc (sym there ∙ all d (omega (arith, below, eight)) live keeps))
 
 -- each drive keeps its part or has none
 pub parts_at_begin : (size : ℕ) (at : Standing) (w : World) (drives : List Bool) → at.counts.live ≡ drives → length at.counts.live ≡ 8 → ((d : ℕ) → has at.pieces d ≡ true → (has drives d ≡ true) × (has at.kept d ≡ false))

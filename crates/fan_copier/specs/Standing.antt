@@ -1,8 +1,9 @@
 -- Where a file's copy stands between two turns, and what is always so of it.
-use Rattle.std.specs.Prelude.{◌≡◌, ℕ, ◌+◌, ◌-◌, ◌*◌, ◌/◌, ◌%◌, ◌^◌, ◌<◌, ◌≤◌, min, Bool, true, false, List, take, drop, slice_index, Option, Some, None, is_some}
+use Rattle.std.specs.Prelude.{◌≡◌, ℕ, ◌+◌, ◌-◌, ◌*◌, ◌/◌, ◌%◌, ◌^◌, ◌<◌, ◌≤◌, min, Bool, true, false, not, ◌&&◌, List, length, take, drop, slice_index, Option, Some, None, is_some}
 use Rattle.block_pool.specs.Lent.{PoolState, block_at}
 use Rattle.fan_core.specs.declared.counts.Counts.{Counts}
 use Rattle.fan_core.specs.Flags.{has}
+use Rattle.fan_core.specs.Next.{at_start}
 use Rattle.fan_copier.specs.Ring.{cell}
 
 -- how many blocks of 65,536 bytes a file of this size has, the last of them shorter or not
@@ -35,6 +36,13 @@ pub record Standing : Type 0 where
   pub counts : Counts
   pub pieces : List Bool
   pub kept : List Bool
+
+-- where a copy stands at its begin: nothing is read or written, and just the drives that keep no part get an empty piece
+pub record IsAtStart (size : ℕ) (drives keeping : List Bool) (slots : ℕ) (at : Standing) : Type 0 where
+  pub counts : at.counts ≡ at_start drives (blocks_of size) slots
+  pub eight : (length at.pieces ≡ 8) × (length at.kept ≡ 8)
+  pub pieces : (d : ℕ) → has at.pieces d ≡ (has drives d && not (has keeping d))
+  pub kept : at.kept ≡ keeping
 
 -- a block that may still be wanted: it was read, and so few blocks ago that no other has its place
 pub record IsHeld (c : Counts) (k : ℕ) : Type 0 where

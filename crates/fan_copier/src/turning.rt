@@ -12,7 +12,7 @@ ghost use Rattle.digest_set.specs.Triple.{triple};
 ghost use Rattle.fan_core.specs.Flags.{has, HasSome, lowest, count};
 ghost use Rattle.fan_core.specs.Next.{CanRead, waiting};
 ghost use Rattle.fan_copier.specs.Ring.{taken, IsOut, Owns, KeepsPool, GivesAll};
-ghost use Rattle.fan_copier.specs.Standing.{blocks_of, block_len, block_of};
+ghost use Rattle.fan_copier.specs.Standing.{IsAtStart, blocks_of, block_len, block_of};
 ghost use Rattle.fan_copier.specs.Reads.{AreAt, AreOn};
 ghost use Rattle.fan_copier.specs.Copying.{card_of, size_of, live_of, kept_of, slots_at_most, slots_of, standing, Has, HoldsBlocks, Copying, NoPart, PartBegins};
 ghost use Rattle.fan_copier.specs.Turning.{with_piece, with_read, dropped, ReadCalls, PastCalls, next_block, Touches, AreCopyCalls, Nearer, GoOn, turns_left, Turned, PutStands, WriteCalls, IsChanged};
@@ -34,6 +34,7 @@ const BLOCK: u64 = 65536;
 fn without_all(drives: Drives, others: Drives) -> Drives
     ensures within { (d : ℕ) → has result d ≡ true → (has drives d ≡ true) × (has others d ≡ false) }
     ensures all { (d : ℕ) → d < 8 → has drives d ≡ true → has others d ≡ false → has result d ≡ true }
+    ensures eight { (length result ≡ 8) × (length others ≡ 8) }
 {
     let mut left = Drives::none();
     for d in 0..8 {
@@ -54,6 +55,7 @@ impl FileCopy {
         requires drives { HasSome drives }
         requires kept { (d : ℕ) → has kept d ≡ true → has drives d ≡ true }
         ensures is { (card_of result ≡ source) × (size_of result ≡ size) × (live_of result ≡ drives) × (slots_at_most result ≡ slots) × (kept_of result ≡ kept) }
+        ensures stands { IsAtStart size drives kept slots (standing result) }
         ensures owns { (pool : PoolState) → Owns (slots_of result) pool }
         ensures none { taken (slots_of result) ≡ 0 }
         ensures turns { turns_left (standing result) ≤ (blocks_of size + 1) * (count drives + 1) }
