@@ -10,3 +10,4 @@ pub mod Parts
 pub mod Beginning
 pub mod Turns
 pub mod Holding
+pub mod Keeping

@@ -29,7 +29,7 @@ taken_none (None ∷ ring) none = taken_none ring (λ j below. none (suc j) (ome
 taken_none (Some m ∷ ring) none = absurd (cc (none 0 (omega arith)))
 
 -- no more slots than places that may have one
-taken_most : (ring : List (Option ℕ)) (n : ℕ) → ((j : ℕ) → n ≤ j → is_some (cell ring j) ≡ false) → taken ring ≤ n
+pub taken_most : (ring : List (Option ℕ)) (n : ℕ) → ((j : ℕ) → n ≤ j → is_some (cell ring j) ≡ false) → taken ring ≤ n
 taken_most [] n outside = omega arith
 taken_most (None ∷ ring) zero outside = taken_most ring zero (λ j above. outside (suc j) (omega (arith, above)))
 taken_most (Some m ∷ ring) zero outside = absurd (cc (outside 0 (omega arith)))

@@ -4,3 +4,4 @@ pub mod Standing
 pub mod Copying
 pub mod Turning
 pub mod Passed
+pub mod Keeping
