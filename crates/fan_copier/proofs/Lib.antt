@@ -11,3 +11,5 @@ pub mod Beginning
 pub mod Turns
 pub mod Holding
 pub mod Keeping
+pub mod Ordering
+pub mod Following

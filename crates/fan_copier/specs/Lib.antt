@@ -5,3 +5,4 @@ pub mod Copying
 pub mod Turning
 pub mod Passed
 pub mod Keeping
+pub mod Follows

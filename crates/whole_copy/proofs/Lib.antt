@@ -1,4 +1,2 @@
-pub mod Ordering
-pub mod Following
 pub mod Turned
 pub mod Attaching

@@ -1,20 +1,15 @@
 -- What is so of a copy between two of its turns.
-use Rattle.std.proofs.Common.{◌≡◌, ◌≢◌, ◌⊎◌, inl, inr, ℕ, ◌+◌, ◌*◌, ◌≤◌, ◌<◌, Bool, true, false, List, [], ◌∷◌, ◌++◌, length, slice_set, refl, sym, ◌∙◌, ap, subst, arith, length-append, append-nil, take}
-use Rattle.std.proofs.Common.{get_or-set_other}
-use Rattle.std.proofs.lemmas.Bool.{cases_eq}
-use Rattle.std.specs.Prelude.{Option, Some, None}
-use Rattle.bay_core.specs.Replay.{Device, Source, Drive}
+use Rattle.std.proofs.Common.{◌≡◌, ◌⊎◌, inl, inr, ℕ, ◌+◌, ◌≤◌, ◌<◌, Bool, true, false, List, [], ◌∷◌, ◌++◌, length, refl, sym, ◌∙◌, ap, subst, arith, length-append, append-nil}
+use Rattle.std.specs.Prelude.{None}
+use Rattle.bay_core.specs.Replay.{Source, Drive}
 use Rattle.bay_core.specs.Map.{Map, content}
 use Rattle.bay_core.specs.World.{World, Rose, Steady}
 use Rattle.bay_core.specs.Went.{Went}
 use Rattle.bay_core.proofs.Runs.{went_none, went_such, went_then, went_on, rose_still, rose_since}
 use Rattle.block_pool.specs.Lent.{PoolState}
+use Rattle.digest_set.specs.declared.triple.Triple.{Triple}
 use Rattle.digest_set.specs.Triple.{triple}
-use Rattle.fan_core.specs.declared.act.Act.TheVariants.{Read, Write, Finished}
 use Rattle.fan_core.specs.Flags.{has, lowest}
-use Rattle.fan_core.specs.Next.{next_act}
-use Rattle.fan_core.proofs.Rules.{lowest_has}
-use Rattle.fan_core.proofs.Keeps.{act_read, act_finished}
 use Rattle.fan_copier.specs.declared.copy.FileCopy.{FileCopy}
 use Rattle.fan_copier.specs.declared.turn.Turn.{Turn}
 use Rattle.fan_copier.specs.declared.turn.Turn.TheVariants.{Going, Dropped, Copied, SourceFailed, Changed, NoDrive}
@@ -23,29 +18,14 @@ use Rattle.fan_copier.specs.Copying.{standing, Copying, PartIs}
 use Rattle.fan_copier.specs.Reads.{AreAt}
 use Rattle.fan_copier.proofs.Reading.{steady_still}
 use Rattle.fan_copier.proofs.Turns.{at_none}
-use Rattle.std.proofs.Math.Seq.{take-add}
 use Rattle.std.proofs.lemmas.List.{take_all}
 use Rattle.fan_copier.specs.Passed.{card_calls}
-use Rattle.fan_copier.specs.Turning.{Doing, EmptyPiece, Acting, doing, doing_next, StandsAfter, TurnCalls, Touches, AreCopyCalls, CameTo, CardHas, GoOn, Turned, turns_left}
-use Rattle.fan_copier.proofs.Growing.{block_within}
+use Rattle.fan_copier.specs.Turning.{doing, StandsAfter, TurnCalls, Touches, AreCopyCalls, CameTo, CardHas, GoOn, Turned, turns_left}
 use Rattle.fan_copier.proofs.Leaving.{copy_calls_append, no_copy_calls}
 use Rattle.fan_copier.proofs.Passing.{card_append}
-use Rattle.whole_copy.specs.Follows.{OneTurn, FollowsWindow, given_in, stands_after, GoesOn, AllGoOn, EndedAs, CardIs, CopyEnded}
-use Rattle.whole_copy.proofs.Ordering.{ReadsFrom, order_append, order_none, order_in, turn_order}
-use Rattle.whole_copy.proofs.Following.{given_more, stands_more, go_on_more, last_more, follows_none, follows_more}
-
--- some number is in a set that is not empty
-pub some_live : (live : List Bool) → (lowest live ≡ None → ⊥) → (d : ℕ) × (has live d ≡ true)
-some_live live some = pick (lowest live) refl where
-  pick : (o : Option ℕ) → lowest live ≡ o → (d : ℕ) × (has live d ≡ true)
-  pick None is = absurd (some is)
-  pick (Some d) is = (d, lowest_has live d is)
-
--- the devices of a copy with fewer drives are among those of one with more
-pub widen : (s : ℕ) (less more : List Bool) → ((d : ℕ) → has less d ≡ true → has more d ≡ true) → (x : Device) → Touches s less x → Touches s more x
-widen s less more so x (inl card) = inl card
-widen s less more so x (inr (inl pick)) = inr (inl pick)
-widen s less more so x (inr (inr (d, live, is))) = inr (inr (d, so d live, is))
+use Rattle.fan_copier.specs.Follows.{OneTurn, FollowsWindow, given_in, stands_after, GoesOn, AllGoOn, EndsAtSize, EndedAs, CardIs, CopyEnded}
+use Rattle.fan_copier.proofs.Ordering.{ReadsFrom, order_append, order_none, order_in, turn_order, turn_past, past_more}
+use Rattle.fan_copier.proofs.Following.{given_more, stands_more, go_on_more, last_more, follows_none, follows_more, some_live, widen, more_at, reads_at, ends_at, this_turn, on_card, changed_other}
 
 -- the turns so far of a copy that stood there with these drives, over which it came to these worlds
 pub record SoFar (s : ℕ) (path : List ℕ) (size : ℕ) (at : Standing) (before after : World) (copy : FileCopy) (pool : PoolState) : Type 0 where
@@ -81,66 +61,9 @@ so_far_none path copy pool w copying = record {
   card = λ m steady. at_none (content m path) 0;
 }
 
--- bytes behind others
-pub more_at : (file bytes more : List ℕ) → AreAt file 0 bytes → AreAt file (length bytes) more → AreAt file 0 (bytes ++ more)
-more_at file bytes more one two =
-    (λ i. one' i ++ two i) ∙ sym (take-add (length bytes) (length more) file) ∙ ap (λ n. take n file) (sym (length-append bytes more)) where
-      one' : bytes ≡ take (length bytes) file
-      one' = one
-
--- what a turn does, where it reads or ends, and how many bytes were given before it
-reads_at : (copy : FileCopy) (pool : PoolState) (w : World) (bytes : List ℕ) (p q : ℕ) → Copying copy pool w bytes → doing (standing copy) p ≡ Acting q Read → copy.window.counts.read * 65536 ≡ length bytes
-reads_at copy pool w bytes p q copying is = by_piece (lowest copy.pieces) is where
-  acts : next_act copy.window.counts p ≡ Read → copy.window.counts.read * 65536 ≡ length bytes
-  acts read =
-      let can = act_read copy.window.counts p read in
-      let more = can.more in
-      let n = copy.keeps.blocks in
-      let within = block_within copy.size copy.window.counts.read (omega (arith, more, n)) in
-      let h = copying.has.so_far in
-      omega (arith, within, h)
-
-  by_piece : (o : Option ℕ) → doing_next o copy.window.counts p ≡ Acting q Read → copy.window.counts.read * 65536 ≡ length bytes
-  by_piece None is = acts (cc is)
-  by_piece (Some d) is = absurd (cc is)
-
-ends_at : (copy : FileCopy) (pool : PoolState) (w : World) (bytes : List ℕ) (p q : ℕ) → Copying copy pool w bytes → doing (standing copy) p ≡ Acting q Finished → copy.size ≡ length bytes
-ends_at copy pool w bytes p q copying is = by_piece (lowest copy.pieces) is where
-  acts : next_act copy.window.counts p ≡ Finished → copy.size ≡ length bytes
-  acts finished =
-      let done = act_finished copy.window.counts p copy.window.keeps finished in
-      let r = done.read in
-      let n = copy.keeps.blocks in
-      let h = copying.has.so_far in
-      omega (arith, r, n, h)
-
-  by_piece : (o : Option ℕ) → doing_next o copy.window.counts p ≡ Acting q Finished → copy.size ≡ length bytes
-  by_piece None is = acts (cc is)
-  by_piece (Some d) is = absurd (cc is)
-
--- a turn as one of the turns of a copy
-abbrev pub this_turn : ℕ → List ℕ → Turn → FileCopy → OneTurn
-this_turn pick given r new = record { pick = pick; given = given; came = r; now = standing new }
-
 either : (b : Bool) → (b ≡ true) ⊎ (b ≡ false)
 either true = inl refl
 either false = inr refl
-
--- after a turn that goes on, what the card gave is of its file
-on_card : (r : Turn) → GoesOn r → (file : List ℕ) (size : ℕ) (bytes given : List ℕ) → CardHas file size bytes given r → AreAt file (length bytes) given
-on_card Going on file size bytes given card = card
-on_card (Dropped d) on file size bytes given card = card
-on_card (Copied t) on file size bytes given card = absurd on
-on_card SourceFailed on file size bytes given card = absurd on
-on_card (Changed listed read) on file size bytes given card = absurd on
-on_card NoDrive on file size bytes given card = absurd on
-
--- a card whose file has another length than was listed
-changed_other : (size : ℕ) (at now : Standing) (did : Doing) (listed read : ℕ) → StandsAfter size at now did (Changed listed read) → (listed ≡ size) × (read ≢ size)
-changed_other size at now (EmptyPiece d) listed read stands = absurd stands
-changed_other size at now (Acting p Read) listed read (same, fewer, still) = (same, λ is. absurd (omega (arith, is, fewer)))
-changed_other size at now (Acting p (Write d k)) listed read stands = absurd stands
-changed_other size at now (Acting p Finished) listed read (same, more, still) = (same, λ is. absurd (omega (arith, is, more)))
 
 module _ (s : ℕ) (path : List ℕ) (size : ℕ) (at : Standing) (before mid after : World) (old new : FileCopy) (pool now : PoolState) (r : Turn) (far : SoFar s path size at before mid old pool) (pick : ℕ) (given : List ℕ)
     (stands : StandsAfter size (standing old) (standing new) (doing (standing old) pick) r)
@@ -168,6 +91,13 @@ module _ (s : ℕ) (path : List ℕ) (size : ℕ) (at : Standing) (before mid af
         subst (λ K. ReadsFrom s path 0 turn.0 K) (sym (ap (card_calls s) j.is ∙ card_append s j.first j.second)) (order_append s path 0 (length (given_in far.turns)) turn.0 (card_calls s j.first) (card_calls s j.second) j.here turn.1),
         turn.2,
       )) (went_then far.once (went_on (widen s old.window.counts.live at.counts.live far.still) calls))
+
+  -- where this turn ended the copy well, one byte was asked for last
+  then_past : (digests : Triple) → r ≡ Copied digests → Went (Touches s at.counts.live) (λ L. EndsAtSize s path size (card_calls s L)) before after
+  then_past digests is = went_such (λ L j. past_more s path size j.first j.second L j.is (turn_past s path size (standing old) (standing new) (given_in far.turns) given (doing (standing old) pick) digests j.second
+      (subst (λ q. StandsAfter size (standing old) (standing new) (doing (standing old) pick) q) is stands)
+      (subst (λ q. TurnCalls s path size (standing old) (standing new) (given_in far.turns) given (doing (standing old) pick) q j.second) is j.there)))
+      (went_then far.calls (went_on (widen s old.window.counts.live at.counts.live far.still) calls))
 
   then_touches : Went (Touches s at.counts.live) (AreCopyCalls s path) before after
   then_touches = went_such (λ L j. subst (λ K. AreCopyCalls s path K) (sym j.is) (copy_calls_append s path j.first j.second j.here j.there)) (went_then far.touches (went_on (widen s old.window.counts.live at.counts.live far.still) touches))
@@ -237,6 +167,7 @@ module _ (path : List ℕ) (start : FileCopy) (before mid after : World) (old ne
         ends = inr (last_more far.turns (this_turn pick given r new) far.on, not_on);
         stands = sym (stands_more (standing start) far.turns (this_turn pick given r new));
         once = went_such (λ L j. order_in start.source path 0 j.0 (card_calls start.source L) j.1) (then_once start.source path start.size (standing start) before mid after old new pool now r far pick given stands calls touches card);
+        past = then_past start.source path start.size (standing start) before mid after old new pool now r far pick given stands calls touches card;
         still = λ d live. far.still d (ap (λ (set : List Bool). has set d) (sym same) ∙ live);
         dropped = then_dropped start.source path start.size (standing start) before mid after old new pool now r far pick given stands calls touches card (λ d live out. absurd (cc (sym live ∙ ap (λ (set : List Bool). has set d) (sym same) ∙ out)));
         came = subst (λ (l : List ℕ). EndedAs start new before after l r) (sym all) (ended_as r stands not_on came same);
@@ -254,6 +185,7 @@ ended_alone path start before after copy pool far none = record {
   ends = inl (refl, far.on);
   stands = far.stands;
   once = went_such (λ L r. order_in start.source path 0 (length (given_in far.turns)) (card_calls start.source L) r) far.once;
+  past = λ digests is. absurd (cc is);
   still = far.still;
   dropped = far.dropped;
   came = none;
@@ -279,13 +211,6 @@ pub all_touches : (s : ℕ) (path : List ℕ) (size : ℕ) (at : Standing) (befo
     → Went (Touches s at.counts.live) (AreCopyCalls s path) before after
 all_touches s path size at before mid after old pool far touches = went_such (λ L j. subst (λ K. AreCopyCalls s path K) (sym j.is) (copy_calls_append s path j.first j.second j.here j.there))
     (went_then far.touches (went_on (widen s old.window.counts.live at.counts.live far.still) (turn_touches s path size at before mid after old pool far touches)))
-
--- the drive that was dropped is the one that is live no longer
-pub dropped_that : (set : List Bool) (d e : ℕ) → has set e ≡ true → has (slice_set set d false) e ≡ false → e ≡ d
-dropped_that set d e live out = elim (cases_eq e d) [
-  | inl here ↦ here
-  | inr away ↦ absurd (cc (sym live ∙ sym (get_or-set_other set d e false false away) ∙ out))
-]
 
 -- how a copy ends
 pub finish : (path : List ℕ) (start : FileCopy) (before mid after : World) (old new : FileCopy) (pool now : PoolState) (r : Turn) → SoFar start.source path start.size (standing start) before mid old pool → (r ≡ Going → ⊥) → ((d : ℕ) → r ≡ Dropped d → ⊥)

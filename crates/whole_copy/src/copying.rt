@@ -7,9 +7,9 @@ ghost use Rattle.bay_core.specs.World.{World, Steady};
 ghost use Rattle.block_pool.specs.Lent.{is_lent, free_in};
 ghost use Rattle.fan_core.specs.Flags.{has};
 ghost use Rattle.fan_copier.specs.Copying.{card_of, size_of, live_of, slots_at_most, slots_of, Copying};
+ghost use Rattle.fan_copier.specs.Follows.{CopyEnded};
 ghost use Rattle.fan_copier.specs.Ring.{taken, IsOut, Owns, KeepsPool};
 ghost use Rattle.fan_copier.specs.Turning.{IsChanged};
-ghost use Rattle.whole_copy.specs.Follows.{CopyEnded};
 
 use bay_core::Bay;
 use block_pool::{Pool, Slot};

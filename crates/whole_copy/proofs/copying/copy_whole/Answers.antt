@@ -8,8 +8,9 @@ use Rattle.fan_copier.specs.declared.turn.Turn.TheVariants.{Going, Dropped}
 use Rattle.fan_copier.proofs.Leaving.{copy_leaves}
 use Rattle.fan_copier.proofs.Reading.{steady_still}
 use Rattle.fan_copier.proofs.Rings.{keeps_then, keeps_none}
-use Rattle.whole_copy.specs.Follows.{given_in}
-use Rattle.whole_copy.proofs.Turned.{so_far_none, so_far_more, some_live, turn_stands, turn_calls, turn_touches, all_touches, dropped_that, finish}
+use Rattle.fan_copier.specs.Follows.{given_in}
+use Rattle.fan_copier.proofs.Following.{some_live, dropped_that}
+use Rattle.whole_copy.proofs.Turned.{so_far_none, so_far_more, turn_stands, turn_calls, turn_touches, all_touches, finish}
 use Rattle.whole_copy.proofs.copying.copy_whole.Goals as goal
 
 pub loop-ended-init : goal.loop-ended-init

@@ -1,11 +1,12 @@
 -- The reads of the card in the turns of a copy.
-use Rattle.std.proofs.Common.{◌≡◌, inl, inr, ℕ, ◌+◌, ◌*◌, true, false, cond, List, [], ◌∷◌, ◌++◌, length, refl, sym, ◌∙◌, ap, subst, arith, length-append, append-nil}
+use Rattle.std.proofs.Common.{◌≡◌, inl, inr, ℕ, ◌+◌, ◌*◌, true, false, cond, List, [], ◌∷◌, ◌++◌, length, refl, sym, ◌∙◌, ap, subst, arith, length-append, append-nil, append_assoc}
 use Rattle.std.proofs.lemmas.Bool.Decides.{nat_tests}
 use Rattle.std.specs.Prelude.{Option, Some, None, unwrap_or}
 use Rattle.bay_core.specs.declared.event.Event.{Event}
 use Rattle.bay_core.specs.declared.event.Event.TheVariants.{SourceRead}
 use Rattle.bay_core.specs.Replay.{Source, device_of}
 use Rattle.bay_core.specs.Went.{Then}
+use Rattle.digest_set.specs.declared.triple.Triple.{Triple}
 use Rattle.fan_core.specs.declared.act.Act.{Act}
 use Rattle.fan_core.specs.declared.act.Act.TheVariants.{Read, Write, Finished}
 use Rattle.fan_core.specs.Flags.{has}
@@ -14,9 +15,9 @@ use Rattle.fan_copier.specs.declared.turn.Turn.TheVariants.{Going, Dropped, Copi
 use Rattle.fan_copier.specs.Reads.{OnCard, GaveNone, MayFail, Tiles, EndsAt}
 use Rattle.fan_copier.specs.Standing.{Standing, block_len, block_of}
 use Rattle.fan_copier.specs.Passed.{is_card, card_calls}
-use Rattle.fan_copier.specs.Turning.{Doing, EmptyPiece, Acting, FailsAtOneByte, ActCalls, TurnCalls}
+use Rattle.fan_copier.specs.Turning.{Doing, EmptyPiece, Acting, FailsAtOneByte, StandsAfter, ActCalls, TurnCalls}
 use Rattle.fan_copier.proofs.Passing.{card_append, card_none, card_none_piece, card_none_pick}
-use Rattle.whole_copy.specs.Follows.{GoesOn, InOrder}
+use Rattle.fan_copier.specs.Follows.{GoesOn, InOrder, EndsAtSize}
 
 -- reads of a file of the card from a place up to another, each where the one before ended
 unfoldable pub ReadsFrom : ℕ → List ℕ → ℕ → ℕ → List Event → Type 0
@@ -119,3 +120,19 @@ turn_order s path size at now bytes given (Acting p act) r L read done t =
     let rest = act_order s path size at now bytes given act r t.second (λ is. read p (ap (Acting p) is)) (λ is. done p (ap (Acting p) is)) t.there in
     let same : card_calls s L ≡ card_calls s t.second = ap (card_calls s) t.is ∙ card_append s t.first t.second ∙ ap (λ (K : List Event). K ++ card_calls s t.second) (card_none_pick s p t.first t.here) in
     (rest.0, subst (λ K. ReadsFrom s path (length bytes) rest.0 K) (sym same) rest.1, rest.2)
+
+-- the card's reads of a turn after which the copy ended well
+pub turn_past : (s : ℕ) (path : List ℕ) (size : ℕ) (at now : Standing) (bytes given : List ℕ) (did : Doing) (digests : Triple) (L : List Event) → StandsAfter size at now did (Copied digests) → TurnCalls s path size at now bytes given did (Copied digests) L
+    → EndsAtSize s path size (card_calls s L)
+turn_past s path size at now bytes given (EmptyPiece d) digests L stands t = absurd stands
+turn_past s path size at now bytes given (Acting p Read) digests L stands t = absurd stands
+turn_past s path size at now bytes given (Acting p (Write d k)) digests L stands t = absurd stands
+turn_past s path size at now bytes given (Acting p Finished) digests L stands t =
+    let last : List Event = SourceRead s path size 1 (Some []) ∷ [] in
+    let mine : card_calls s last ≡ last = ap (λ b. cond b last []) (card_here s) in
+    (card_calls s t.first, ap (card_calls s) t.is ∙ card_append s t.first t.second ∙ ap (λ (K : List Event). card_calls s t.first ++ K) (ap (card_calls s) t.there.1 ∙ mine))
+
+-- and those of all calls up to it
+pub past_more : (s : ℕ) (path : List ℕ) (size : ℕ) (A B L : List Event) → L ≡ A ++ B → EndsAtSize s path size (card_calls s B) → EndsAtSize s path size (card_calls s L)
+past_more s path size A B L is (front, last) =
+    (card_calls s A ++ front, ap (card_calls s) is ∙ card_append s A B ∙ ap (λ (K : List Event). card_calls s A ++ K) last ∙ sym (append_assoc (card_calls s A) front (SourceRead s path size 1 (Some []) ∷ [])))

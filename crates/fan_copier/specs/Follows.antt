@@ -1,11 +1,12 @@
 -- All turns of a copy, and what they come to.
-use Rattle.std.specs.Prelude.{◌≡◌, ◌≢◌, ◌⊎◌, ℕ, ◌+◌, ◌≤◌, true, false, List, [], ◌∷◌, ◌++◌, length, Option, None, unwrap_or}
+use Rattle.std.specs.Prelude.{◌≡◌, ◌≢◌, ◌⊎◌, ℕ, ◌+◌, ◌≤◌, true, false, List, [], ◌∷◌, ◌++◌, length, Option, Some, None, unwrap_or}
 use Rattle.bay_core.specs.declared.event.Event.{Event}
 use Rattle.bay_core.specs.declared.event.Event.TheVariants.{SourceRead}
 use Rattle.bay_core.specs.Replay.{Source, Drive}
 use Rattle.bay_core.specs.Map.{Map, content}
 use Rattle.bay_core.specs.World.{World, Rose, Steady}
 use Rattle.bay_core.specs.Went.{Went, Then}
+use Rattle.digest_set.specs.declared.triple.Triple.{Triple}
 use Rattle.digest_set.specs.Triple.{triple}
 use Rattle.fan_core.specs.Flags.{has, lowest}
 use Rattle.fan_copier.specs.declared.copy.FileCopy.{FileCopy}
@@ -66,6 +67,10 @@ unfoldable pub InOrder : ℕ → List ℕ → ℕ → List Event → Type 0
 InOrder s path at [] = Unit {0}
 InOrder s path at (e ∷ L) = (asked : ℕ) × (got : Option (List ℕ)) × (e ≡ SourceRead s path at asked got) × InOrder s path (at + length (unwrap_or got [])) L
 
+-- one byte was asked for at the size, and none came: the last of these reads
+abbrev pub EndsAtSize : ℕ → List ℕ → ℕ → List Event → Type 0
+EndsAtSize s path size L = (front : List Event) × (L ≡ front ++ SourceRead s path size 1 (Some []) ∷ [])
+
 -- what a copy came to, where these are the bytes that the card gave
 abbrev pub EndedAs : FileCopy → FileCopy → World → World → List ℕ → Turn → Type 0
 EndedAs old new before after bytes (Copied t) = (length bytes ≡ size_of old) × (t ≡ triple bytes) × ((d : ℕ) → has (live_of new) d ≡ true → PartIs d after bytes)
@@ -79,8 +84,8 @@ abbrev pub CardIs : List ℕ → List ℕ → Turn → Type 0
 CardIs file bytes (Copied t) = bytes ≡ file
 CardIs file bytes result = Unit {0}
 
--- a whole copy: its turns, which follow the window; no more of them than were left; no byte of the card is read twice; each drive that was
--- dropped failed; what it came to; and a steady card's file is what was copied
+-- a whole copy: its turns, which follow the window; no more of them than were left; no byte of the card is read twice; where it ended well, the
+-- last read asked for one byte at the size; each drive that was dropped failed; what it came to; and a steady card's file is what was copied
 pub record CopyEnded (path : List ℕ) (old new : FileCopy) (before after : World) (result : Turn) : Type 0 where
   pub turns : List OneTurn
   pub calls : Went (Touches (card_of old) (live_of old)) (FollowsWindow (card_of old) path (size_of old) (standing old) [] turns) before after
@@ -88,6 +93,7 @@ pub record CopyEnded (path : List ℕ) (old new : FileCopy) (before after : Worl
   pub ends : EndsIn turns result
   pub stands : standing new ≡ stands_after (standing old) turns
   pub once : Went (Touches (card_of old) (live_of old)) (λ L. InOrder (card_of old) path 0 (card_calls (card_of old) L)) before after
+  pub past : (t : Triple) → result ≡ Copied t → Went (Touches (card_of old) (live_of old)) (λ L. EndsAtSize (card_of old) path (size_of old) (card_calls (card_of old) L)) before after
   pub still : (d : ℕ) → has (live_of new) d ≡ true → has (live_of old) d ≡ true
   pub dropped : (d : ℕ) → has (live_of old) d ≡ true → has (live_of new) d ≡ false → Rose (before.faults (Drive d)) (after.faults (Drive d))
   pub came : EndedAs old new before after (given_in turns) result
