@@ -1,6 +1,5 @@
 -- Drives that were called sealed, and their number.
-use Rattle.std.proofs.Common.{◌≡◌, ◌⊎◌, inl, inr, ℕ, zero, suc, ◌+◌, ◌<◌, ◌≤◌, max, Bool, true, false, cond, List, [], ◌∷◌, ◌++◌, length, refl, sym, ap, ◌∙◌, subst, arith}
-use Rattle.std.specs.Str.{bytes_eq}
+use Rattle.std.proofs.Common.{◌≡◌, ℕ, zero, suc, ◌≤◌, max, Bool, true, cond, List, [], ◌∷◌, ◌++◌, length, refl, sym, ◌∙◌, subst, arith}
 use Rattle.std.proofs.lemmas.Bool.{cond_both, cond-true, cond-false, false≢true}
 use Rattle.std.proofs.lemmas.Slice.Eq.{bytes_eq-Decides}
 use Rattle.bay_core.specs.declared.event.Event.{Event}
@@ -10,11 +9,12 @@ use Rattle.bay_core.specs.Left.{Left}
 use Rattle.crash_law.specs.Protocol.{Protocol, State, IsIn, told_after, Announced}
 use Rattle.copy_plan.specs.Plan.{PlanValue, IsPlan, list_of}
 use Rattle.offload_law.specs.Clear.{clear_text, says, was_said, is_called_sealed, sealed_drives, CountsSealed}
-use Rattle.offload_law.specs.Lines.{sealed_text, announces}
+use Rattle.offload_law.specs.Lines.{sealed_text}
 use Rattle.offload_law.specs.Stages.{Offload, Stage, IsAt, IsAfter, progress}
 use Rattle.offload_law.specs.Steps.{offload}
 use Rattle.offload_law.proofs.Runs.{told_more}
-use Rattle.offload_law.proofs.Said.{sealed_said}
+use Rattle.offload_law.proofs.Said.{sealed_announces}
+use Rattle.offload_law.proofs.Plans.{files_short}
 use Rattle.offload_law.proofs.Safe.{sealed_for_good}
 
 -- the call that says a line announces its steps
@@ -51,7 +51,7 @@ pub called_sealed_is_sealed : (o : Offload) → IsPlan o.plan → (start : Map) 
     is_called_sealed o.plan L d ≡ true → (I : Map) → Left start L d I → IsAfter o I (suc (suc (length o.plan.files)))
 called_sealed_is_sealed o plan start s at d L more end is_in called =
     let all = said_announces (offload d o start) (sealed_text d (length o.plan.files) (list_of o.plan)) L (progress o.plan s) called in
-    let steps = sealed_said d o.plan plan in
+    let steps = sealed_announces d (length o.plan.files) (sealed_text d (length o.plan.files) (list_of o.plan)) (length o.plan.files) (list_of o.plan) (files_short o.plan plan (length o.plan.files) (omega arith)) refl in
     sealed_for_good o plan start s at d L more end is_in (omega (arith, all, steps))
 
 -- what was said stays said

@@ -7,5 +7,6 @@ pub mod Safe
 pub mod InPlace
 pub mod Unique
 pub mod Runs
+pub mod Fields
 pub mod Said
 pub mod Clear

@@ -1,5 +1,5 @@
 -- What is known of the paths of a plan.
-use Rattle.std.proofs.Common.{◌≡◌, ◌≢◌, inl, inr, ℕ, ◌<◌, true, false, List, [], ◌∷◌, ◌++◌, length, refl, sym, ap, ◌∙◌, subst, arith}
+use Rattle.std.proofs.Common.{◌≡◌, ◌≢◌, inl, inr, ℕ, ◌<◌, ◌≤◌, true, false, List, [], ◌∷◌, ◌++◌, length, refl, sym, ap, ◌∙◌, subst, arith}
 use Rattle.std.specs.List.{AllByRecursion}
 use Rattle.std.specs.Ordering.{nat_cmp}
 use Rattle.std.specs.Cmp.Lexicographic.{slice_cmp, nat_list_cmp_total, other_text}
@@ -12,6 +12,7 @@ use Rattle.copy_plan.specs.declared.file.PlannedFile.{PlannedFile}
 use Rattle.copy_plan.specs.Inventory.{IsPlannable, Precedes, EachPair}
 use Rattle.copy_plan.specs.Plan.{PlanValue, IsPlan, Clears, list_of}
 use Rattle.copy_plan.proofs.Files.{all_one, EachPair-before}
+use Rattle.offload_law.specs.Lines.{IsShort}
 use Rattle.drive_journal.proofs.Keeping.{not_own, journal_own, part_own}
 
 pub journal_not_new : journal_path ≢ new_path
@@ -52,6 +53,10 @@ not_less a b same less =
     absurd (cc never)
 
 module _ (p : PlanValue) (plan : IsPlan p) where
+  -- the numbers that the lines of a plan name are short
+  pub files_short : (k : ℕ) → k ≤ length p.files → IsShort k
+  files_short k few = let all = plan.inventory.few in omega (arith, few, all)
+
   pub list_free : is_control_path (list_of p) ≡ false
   list_free = list_name-no_control p.name p.started plan.name
 

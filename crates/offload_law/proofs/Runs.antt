@@ -1,10 +1,9 @@
 -- Runs one after another.
-use Rattle.std.proofs.Common.{◌≡◌, ◌⊎◌, inl, inr, ℕ, zero, suc, ◌≤◌, List, [], ◌∷◌, None, refl, sym, ◌∙◌, subst, arith}
+use Rattle.std.proofs.Common.{◌≡◌, inl, inr, ℕ, zero, suc, ◌≤◌, List, [], ◌∷◌, None, refl, sym, ◌∙◌, subst, arith}
 use Rattle.std.specs.FinMap.{get}
 use Rattle.bay_core.specs.declared.event.Event.{Event}
 use Rattle.bay_core.specs.declared.event.Event.TheVariants.{AttachSource, AttachDrive, AttachFailed, SourceList, SourceRead, DriveList, DriveRead, Write, Sync, Rename, Remove, Moment, Pick, Say}
 use Rattle.bay_core.specs.Map.{Map, Dates}
-use Rattle.bay_core.specs.Left.{Left}
 use Rattle.bay_core.specs.Paths.{journal_path}
 use Rattle.crash_law.specs.Protocol.{Protocol, told_after, Announced}
 use Rattle.copy_plan.specs.Plan.{PlanValue, IsPlan}

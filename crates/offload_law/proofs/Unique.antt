@@ -1,5 +1,5 @@
 -- A map is after one number of steps at most.
-use Rattle.std.proofs.Common.{◌≡◌, ℕ, zero, suc, List, length, Option, Some, None, refl, sym, ap, ◌∙◌, subst, arith}
+use Rattle.std.proofs.Common.{◌≡◌, ℕ, suc, List, length, Option, Some, None, refl, sym, ap, ◌∙◌, subst, arith}
 use Rattle.bay_core.specs.Map.{Map}
 use Rattle.copy_plan.specs.Plan.{PlanValue, IsPlan}
 use Rattle.drive_journal.specs.declared.record.Rec.{Rec}

@@ -77,7 +77,7 @@ offload d o base = record {
   Stage = Stage;
   At = Holds o base;
   progress = progress o.plan;
-  announces = announces d o.plan;
+  announces = announces d (length o.plan.files);
   Prepares = Prepares o.plan;
   Commits = Commits o;
 }

@@ -1,7 +1,7 @@
 //! How far an offload of a card comes on a drive, and what a stop leaves of it.
 #![tactic(auto)]
 
-ghost use Rattle.std.specs.Prelude.{◌≡◌, ◌≢◌, ℕ, List, ◌∷◌, ◌++◌, ◌^◌, ◌<◌, ◌≤◌, suc, Bool, true, length};
+ghost use Rattle.std.specs.Prelude.{◌≡◌, ◌≢◌, ℕ, List, ◌∷◌, ◌++◌, ◌^◌, ◌<◌, ◌≤◌, suc, Bool, true, length, take, codes};
 ghost use Rattle.bay_core.specs.declared.event.Event.{Event};
 ghost use Rattle.bay_core.specs.declared.event.Event.TheVariants.{Say};
 ghost use Rattle.bay_core.specs.Map.{Map, Dates};
@@ -12,10 +12,9 @@ ghost use Rattle.bay_core.specs.Went.{AllOn};
 ghost use Rattle.crash_law.specs.Protocol.{State, IsIn, Announced};
 ghost use Rattle.crash_law.specs.Law.{CrashLaw, Stays};
 ghost use Rattle.crash_law.specs.Lines.{AllLines};
-ghost use Rattle.copy_plan.specs.declared.file.PlannedFile.{PlannedFile};
-ghost use Rattle.copy_plan.specs.Plan.{PlanValue, IsPlan, list_of};
+ghost use Rattle.copy_plan.specs.Plan.{PlanValue, IsPlan};
 ghost use Rattle.offload_law.specs.Clear.{clear_text, is_called_sealed, sealed_drives, CountsSealed};
-ghost use Rattle.offload_law.specs.Lines.{announces, begun_text, done_text, sealed_text};
+ghost use Rattle.offload_law.specs.Lines.{IsShort, Announces, announces, begun_text, done_text, sealed_text};
 ghost use Rattle.offload_law.specs.Stages.{Offload, Stage, IsAt, IsAfter, IsOurs, KeepsRest, progress};
 ghost use Rattle.offload_law.specs.Steps.{offload};
 ghost use Rattle.offload_law.specs.InPlace.{seal_in_place};
@@ -59,7 +58,7 @@ pub fn called_clear()
 /// announced for it.
 pub fn others_keep()
     ensures { (o : Offload) (start : Map) (s : Stage) (d : ℕ) (before since : List Event) →
-        AllOn (λ y. y ≢ Drive d) since → AllLines (λ line. announces d o.plan line ≡ 0) since →
+        AllOn (λ y. y ≢ Drive d) since → AllLines (λ line. announces d (length o.plan.files) line ≡ 0) since →
         Stays (offload d o start) d start s before (before ++ since) }
 {}
 
@@ -87,13 +86,18 @@ pub fn sealed_in_place()
     ensures { (list : List ℕ) → (IsScratch list → ⊥) → (announces : List ℕ → ℕ) (base : Map) → CrashLaw (seal_in_place list announces base) }
 {}
 
-/// A drive's own lines announce its steps: `begun` and `done` one more than its records, `sealed` all. Those of another
-/// drive announce none for it.
+/// The lines `begun`, `done` and `sealed` of a drive announce its steps, whatever numbers of at most 64 digits, paths and names
+/// stand in them; no other line announces any.
 pub fn announced_steps()
-    ensures begun { (d : ℕ) (p : PlanValue) → IsPlan p → (k : ℕ) → k ≤ length p.files → announces d p (begun_text d k (length p.files)) ≡ suc k }
-    ensures done { (d : ℕ) (p : PlanValue) → IsPlan p → (before : List PlannedFile) (f : PlannedFile) (after : List PlannedFile) → p.files ≡ before ++ f ∷ after → announces d p (done_text d (suc (length before)) (length p.files) f.path) ≡ suc (suc (length before)) }
-    ensures sealed { (d : ℕ) (p : PlanValue) → IsPlan p → announces d p (sealed_text d (length p.files) (list_of p)) ≡ suc (suc (length p.files)) }
-    ensures begun_elsewhere { (d e : ℕ) (p : PlanValue) → d < 2 ^ 64 → e < 2 ^ 64 → d ≢ e → (k m : ℕ) → announces d p (begun_text e k m) ≡ 0 }
-    ensures done_elsewhere { (d e : ℕ) (p : PlanValue) → d < 2 ^ 64 → e < 2 ^ 64 → d ≢ e → (k m : ℕ) (path : List ℕ) → announces d p (done_text e k m path) ≡ 0 }
-    ensures sealed_elsewhere { (d e : ℕ) (p : PlanValue) → d < 2 ^ 64 → e < 2 ^ 64 → d ≢ e → (m : ℕ) (list : List ℕ) → announces d p (sealed_text e m list) ≡ 0 }
+    ensures begun { (d n k m : ℕ) → IsShort k → IsShort m → announces d n (begun_text d k m) ≡ suc k }
+    ensures done { (d n k m : ℕ) (path : List ℕ) → IsShort k → IsShort m → announces d n (done_text d k m path) ≡ suc k }
+    ensures sealed { (d n m : ℕ) (list : List ℕ) → IsShort m → announces d n (sealed_text d m list) ≡ suc (suc n) }
+    ensures each { (d n : ℕ) (line : List ℕ) (steps : ℕ) → Announces d n line steps → announces d n line ≡ steps }
+    ensures only { (d n : ℕ) (line : List ℕ) → announces d n line ≢ 0 → Announces d n line (announces d n line) }
+    ensures short { (p : PlanValue) → IsPlan p → (k : ℕ) → k ≤ length p.files → IsShort k }
+    ensures begun_elsewhere { (d e n : ℕ) → d < 2 ^ 64 → e < 2 ^ 64 → d ≢ e → (k m : ℕ) → announces d n (begun_text e k m) ≡ 0 }
+    ensures done_elsewhere { (d e n : ℕ) → d < 2 ^ 64 → e < 2 ^ 64 → d ≢ e → (k m : ℕ) (path : List ℕ) → announces d n (done_text e k m path) ≡ 0 }
+    ensures sealed_elsewhere { (d e n : ℕ) → d < 2 ^ 64 → e < 2 ^ 64 → d ≢ e → (m : ℕ) (list : List ℕ) → announces d n (sealed_text e m list) ≡ 0 }
+    ensures other_word { (d n : ℕ) (line : List ℕ) → take 6 line ≢ codes "begun " → take 5 line ≢ codes "done " → take 7 line ≢ codes "sealed " → announces d n line ≡ 0 }
+    ensures clear { (d n sealed required : ℕ) → announces d n (clear_text sealed required) ≡ 0 }
 {}
