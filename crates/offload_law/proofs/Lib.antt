@@ -6,6 +6,7 @@ pub mod Committed
 pub mod Safe
 pub mod InPlace
 pub mod Unique
+pub mod Counted
 pub mod Runs
 pub mod Fields
 pub mod Said

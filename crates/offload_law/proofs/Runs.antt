@@ -4,15 +4,15 @@ use Rattle.std.specs.FinMap.{get}
 use Rattle.bay_core.specs.declared.event.Event.{Event}
 use Rattle.bay_core.specs.declared.event.Event.TheVariants.{AttachSource, AttachDrive, AttachFailed, SourceList, SourceRead, DriveList, DriveRead, Write, Sync, Rename, Remove, Moment, Pick, Say}
 use Rattle.bay_core.specs.Map.{Map, Dates}
-use Rattle.bay_core.specs.Paths.{journal_path}
+use Rattle.bay_core.specs.Paths.{IsScratch, journal_path}
 use Rattle.crash_law.specs.Protocol.{Protocol, told_after, Announced}
 use Rattle.copy_plan.specs.Plan.{PlanValue, IsPlan}
-use Rattle.offload_law.specs.Stages.{Offload, Stage, Fresh, Begun, Sealed, IsAt, IsAfter, IsOfCard, IsOurs, KeepsRest, progress}
+use Rattle.offload_law.specs.Stages.{Offload, Stage, Fresh, Begun, Sealed, IsAt, IsAfter, IsAfterOn, StandsAfter, HoldsPlan, IsOfCard, IsOurs, KeepsRest, progress}
 use Rattle.offload_law.specs.Steps.{offload}
 use Rattle.offload_law.specs.Runs.{LeftByRuns, LeftByRunsOn, untouched, stopped}
 use Rattle.offload_law.proofs.Stages.{rest_trans}
 use Rattle.offload_law.proofs.Safe.{crash_prefix}
-use Rattle.offload_law.proofs.Unique.{one_stage, plan_stays}
+use Rattle.offload_law.proofs.Unique.{one_stage, one_progress_on, plan_stays, plan_held}
 
 told_step : (P : Protocol) (e : Event) (told : ℕ) → told ≤ told_after P e told
 told_step P (Say line ok) told = omega arith
@@ -41,25 +41,40 @@ after_runs o plan base m first at (stopped {start = start} before s there d L mo
     let so_far = after_runs o plan base start first at before in
     let after = so_far.1 in
     let found = crash_prefix o plan start s there d L more end is_in m left_m in
-    let same : progress o.plan s ≡ so_far.0 = one_stage o start s after.stage there after.at ∙ after.done in
+    let same : progress o.plan s ≡ so_far.0 = one_stage o o start s after.stage there after.at ∙ after.done in
     let grows : progress o.plan s ≤ found.0 = omega (arith, found.3, told_more (offload d o start) L (progress o.plan s)) in
     (found.0, found.1, rest_trans o.plan so_far.0 found.0 (omega (arith, grows, same)) so_far.2 found.2, omega (arith, grows, same, so_far.3))
 
--- a map after no step has no journal, and one after some is ours
-ours_after : (card : Map) (dates : Dates) (p : PlanValue) → IsOfCard card dates p → IsPlan p → (m : Map) (steps : ℕ) → IsAfter (record { plan = p; card = card }) m steps → IsOurs card dates m
-ours_after card dates p of plan m zero after = inl (fresh after.stage after.at after.done)
-  where
-    fresh : (s : Stage) → IsAt (record { plan = p; card = card }) m s → progress p s ≡ 0 → get m journal_path ≡ None
-    fresh Fresh at is = at
-    fresh (Begun recs) at is = absurd (omega (arith, is))
-    fresh (Sealed recs finish) at is = absurd (omega (arith, is))
-ours_after card dates p of plan m (suc steps) after = inr (p, steps, of, plan, after)
+module _ (card : Map) (dates : Dates) where
+  -- a map after some steps of a plan of the card
+  after_on : (p : PlanValue) → IsOfCard card dates p → IsPlan p → (m : Map) (steps : ℕ) → IsAfter (record { plan = p; card = card }) m steps → IsAfterOn card dates m steps
+  after_on p of plan m zero after = fresh after.stage after.at after.done
+    where
+      fresh : (s : Stage) → IsAt (record { plan = p; card = card }) m s → progress p s ≡ 0 → get m journal_path ≡ None
+      fresh Fresh at is = at
+      fresh (Begun recs) at is = absurd (omega (arith, is))
+      fresh (Sealed recs finish) at is = absurd (omega (arith, is))
+  after_on p of plan m (suc steps) after = (p, plan, of, after)
 
-pub ours_stays : (card : Map) (dates : Dates) (base m : Map) → IsOurs card dates base → LeftByRunsOn card dates base m → IsOurs card dates m
-ours_stays card dates base m ours untouched = ours
-ours_stays card dates base m ours (stopped {start = start} before p of plan s there d L more end is_in left_m) =
-    let found = crash_prefix (record { plan = p; card = card }) plan start s there d L more end is_in m left_m in
-    ours_after card dates p of plan m found.0 found.1
+  -- after no step nothing but the scratch paths may have changed
+  untouched_yet : (p : PlanValue) (m base : Map) → KeepsRest p m base 0 → (q : List ℕ) → (IsScratch q → ⊥) → get m q ≡ get base q
+  untouched_yet p m base rest q other =
+      rest.same q (λ t. elim t [ inl scratch ↦ other scratch | inr (inl some) ↦ omega (arith, some.0) | inr (inr (inl begun)) ↦ omega (arith, begun.early) | inr (inr (inr sealed)) ↦ omega (arith, sealed.0) ])
+
+  pub stands_on : (p : PlanValue) → IsOfCard card dates p → IsPlan p → (m base : Map) (steps : ℕ) → IsAfter (record { plan = p; card = card }) m steps → KeepsRest p m base steps → StandsAfter (λ q. q ≡ p) card dates base m steps
+  stands_on p of plan m base zero after rest = (after_on p of plan m zero after, untouched_yet p m base rest)
+  stands_on p of plan m base (suc steps) after rest = (p, refl, plan, of, after, rest)
+
+  -- a drive stands after its own steps, by the plan of its journal
+  pub stands_still : (m : Map) (steps : ℕ) → IsAfterOn card dates m steps → StandsAfter (HoldsPlan m) card dates m m steps
+  stands_still m zero none = (none, λ q other. refl)
+  stands_still m (suc steps) after = (after.0, plan_held (record { plan = after.0; card = card }) m steps after.3, after.1, after.2, after.3, record { same = λ q t. refl })
+
+  pub ours_stays : (base m : Map) → IsOurs card dates base → LeftByRunsOn card dates base m → IsOurs card dates m
+  ours_stays base m ours untouched = ours
+  ours_stays base m ours (stopped {start = start} before p of plan s there d L more end is_in left_m) =
+      let found = crash_prefix (record { plan = p; card = card }) plan start s there d L more end is_in m left_m in
+      (found.0, after_on p of plan m found.0 found.1)
 
 pub steps_stay : (card : Map) (dates : Dates) (base m : Map) → LeftByRunsOn card dates base m → (p : PlanValue) → IsPlan p → (k : ℕ) → IsAfter (record { plan = p; card = card }) base (suc k) →
     (steps : ℕ) × IsAfter (record { plan = p; card = card }) m steps × (suc k ≤ steps)
@@ -74,6 +89,19 @@ steps_stay card dates base m (stopped {start = start} before q of also s there d
         let same : p ≡ q = plan_stays p q card start j then_after s there in
         let mine = subst (λ (r : PlanValue). IsAfter (record { plan = r; card = card }) start (suc j)) same then_after in
         let found = crash_prefix (record { plan = q; card = card }) also start s there d L more end is_in m left_m in
-        let reached : progress q s ≡ suc j = one_stage (record { plan = q; card = card }) start s mine.stage there mine.at ∙ mine.done in
+        let reached : progress q s ≡ suc j = one_stage (record { plan = q; card = card }) (record { plan = q; card = card }) start s mine.stage there mine.at ∙ mine.done in
         let grows = told_more (offload d (record { plan = q; card = card }) start) L (progress q s) in
         (found.0, subst (λ (r : PlanValue). IsAfter (record { plan = r; card = card }) m found.0) (sym same) found.1, omega (arith, low, reached, grows, found.3))
+
+-- nor is a step taken back, whichever plans they are by
+pub never_back : (card : Map) (dates : Dates) (base m : Map) → LeftByRunsOn card dates base m → (j k : ℕ) → IsAfterOn card dates base j → IsAfterOn card dates m k → j ≤ k
+never_back card dates base m left zero k x y = omega arith
+never_back card dates base m left (suc j) k x y =
+    let found = steps_stay card dates base m left x.0 x.1 j x.3 in
+    at_least found.0 found.1 found.2
+  where
+    at_least : (steps : ℕ) → IsAfter (record { plan = x.0; card = card }) m steps → suc j ≤ steps → suc j ≤ k
+    at_least zero after low = absurd (omega (arith, low))
+    at_least (suc steps) after low =
+        let same : suc steps ≡ k = one_progress_on card card dates dates m (suc steps) k (x.0, x.1, x.2, after) y in
+        omega (arith, low, same)

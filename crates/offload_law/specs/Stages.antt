@@ -1,6 +1,6 @@
 -- How far an offload of a card has come on a drive.
-use Rattle.std.specs.Prelude.{◌≡◌, ◌⊎◌, ℕ, suc, ◌<◌, ◌≤◌, List, [], ◌∷◌, ◌++◌, length, Some, None}
-use Rattle.std.specs.FinMap.{get}
+use Rattle.std.specs.Prelude.{◌≡◌, ◌⊎◌, ℕ, zero, suc, ◌<◌, ◌≤◌, List, [], ◌∷◌, ◌++◌, length, Some, None}
+use Rattle.std.specs.FinMap.{get, keys}
 use Rattle.bay_core.specs.Map.{Map, Dates, content}
 use Rattle.bay_core.specs.Paths.{journal_path, IsScratch}
 use Rattle.path_text.specs.Moment.{last_moment}
@@ -92,6 +92,25 @@ pub record IsOfCard (card : Map) (dates : Dates) (p : PlanValue) : Type 0 where
   pub on_card : (before after : List PlannedFile) (f : PlannedFile) → p.files ≡ before ++ f ∷ after → IsOnCard card dates f
   pub all : (q bytes : List ℕ) → get card q ≡ Some bytes → (before after : List PlannedFile) × (f : PlannedFile) × (p.files ≡ before ++ f ∷ after) × (q ≡ f.path)
 
--- a drive that a run on this card left: it has no journal, or it stands after some steps of an offload of the card
+-- A map after so many steps of an offload of the card: no journal; or, from the first step on, by a plan of the card.
+abbrev pub IsAfterOn : Map → Dates → Map → ℕ → Type 0
+IsAfterOn card dates m zero = get m journal_path ≡ None
+IsAfterOn card dates m (suc k) = (p : PlanValue) × IsPlan p × IsOfCard card dates p × IsAfter (record { plan = p; card = card }) m (suc k)
+
+-- all steps of an offload of the card
+abbrev pub all_steps : Map → ℕ
+all_steps card = suc (suc (length (keys card)))
+
+-- The same, where the plan is such a one, and every path that these steps do not speak of has what the base has there: for no step, all but
+-- the scratch paths.
+abbrev pub StandsAfter : (PlanValue → Type 0) → Map → Dates → Map → Map → ℕ → Type 0
+StandsAfter Such card dates base m zero = (get m journal_path ≡ None) × ((q : List ℕ) → (IsScratch q → ⊥) → get m q ≡ get base q)
+StandsAfter Such card dates base m (suc k) = (p : PlanValue) × Such p × IsPlan p × IsOfCard card dates p × IsAfter (record { plan = p; card = card }) m (suc k) × KeepsRest p m base (suc k)
+
+-- the journal of a map holds this plan
+abbrev pub HoldsPlan : Map → PlanValue → Type 0
+HoldsPlan m p = (bytes : List ℕ) × (recs : List Rec) × (get m journal_path ≡ Some bytes) × HoldsJournal bytes p recs
+
+-- a drive that a run on this card left: it stands after some steps of an offload of the card
 abbrev pub IsOurs : Map → Dates → Map → Type 0
-IsOurs card dates m = (get m journal_path ≡ None) ⊎ ((p : PlanValue) × (steps : ℕ) × IsOfCard card dates p × IsPlan p × IsAfter (record { plan = p; card = card }) m (suc steps))
+IsOurs card dates m = (steps : ℕ) × IsAfterOn card dates m steps

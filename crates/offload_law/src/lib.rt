@@ -2,6 +2,7 @@
 #![tactic(auto)]
 
 ghost use Rattle.std.specs.Prelude.{◌≡◌, ◌≢◌, ℕ, List, ◌∷◌, ◌++◌, ◌^◌, ◌<◌, ◌≤◌, suc, Bool, true, length, take, codes};
+ghost use Rattle.std.specs.FinMap.{keys};
 ghost use Rattle.bay_core.specs.declared.event.Event.{Event};
 ghost use Rattle.bay_core.specs.declared.event.Event.TheVariants.{Say};
 ghost use Rattle.bay_core.specs.Map.{Map, Dates};
@@ -15,7 +16,7 @@ ghost use Rattle.crash_law.specs.Lines.{AllLines};
 ghost use Rattle.copy_plan.specs.Plan.{PlanValue, IsPlan};
 ghost use Rattle.offload_law.specs.Clear.{clear_text, is_called_sealed, sealed_drives, CountsSealed};
 ghost use Rattle.offload_law.specs.Lines.{IsShort, Announces, announces, begun_text, done_text, sealed_text};
-ghost use Rattle.offload_law.specs.Stages.{Offload, Stage, IsAt, IsAfter, IsOurs, KeepsRest, progress};
+ghost use Rattle.offload_law.specs.Stages.{Offload, Stage, IsAt, IsAfter, IsAfterOn, StandsAfter, HoldsPlan, IsOfCard, IsOurs, KeepsRest, progress};
 ghost use Rattle.offload_law.specs.Steps.{offload};
 ghost use Rattle.offload_law.specs.InPlace.{seal_in_place};
 ghost use Rattle.offload_law.specs.Runs.{LeftByRuns, LeftByRunsOn};
@@ -23,12 +24,19 @@ ghost use Rattle.offload_law.specs.Runs.{LeftByRuns, LeftByRunsOn};
 /// Wherever a run that keeps to the steps stops, within a write too, the drive is left with a prefix of the offload's
 /// steps that holds every step announced for it, and at most one more.
 pub fn crash_prefix()
-    ensures { (o : Offload) → IsPlan o.plan → (start : Map) (s : Stage) → IsAt o start s →
+    ensures by_plan { (o : Offload) → IsPlan o.plan → (start : Map) (s : Stage) → IsAt o start s →
         (d : ℕ) (L more : List Event) (end : State (offload d o start)) → IsIn (offload d o start) d start s (L ++ more) end →
         (I : Map) → Left start L d I →
         (steps : ℕ) × IsAfter o I steps × KeepsRest o.plan I start steps
         × (Announced (offload d o start) (progress o.plan s) L ≤ steps)
         × (steps ≤ suc (Announced (offload d o start) (progress o.plan s) L)) }
+    ensures on_card { (o : Offload) → IsPlan o.plan → (dates : Dates) → IsOfCard o.card dates o.plan → (start : Map) (s : Stage) → IsAt o start s →
+        (d : ℕ) (L more : List Event) (end : State (offload d o start)) → IsIn (offload d o start) d start s (L ++ more) end →
+        (I : Map) → Left start L d I →
+        (steps : ℕ) × StandsAfter (λ p. p ≡ o.plan) o.card dates start I steps
+        × (Announced (offload d o start) (progress o.plan s) L ≤ steps)
+        × (steps ≤ suc (Announced (offload d o start) (progress o.plan s) L)) }
+    ensures unchanged { (card : Map) (dates : Dates) (m : Map) (steps : ℕ) → IsAfterOn card dates m steps → StandsAfter (HoldsPlan m) card dates m m steps }
 {}
 
 /// Once the line `sealed` of a drive was said, each stop leaves all its steps.
@@ -74,11 +82,18 @@ pub fn ours_after_runs()
     ensures ours { (card : Map) (dates : Dates) (base m : Map) → IsOurs card dates base → LeftByRunsOn card dates base m → IsOurs card dates m }
     ensures kept { (card : Map) (dates : Dates) (base m : Map) → LeftByRunsOn card dates base m → (p : PlanValue) → IsPlan p → (k : ℕ) → IsAfter (record { plan = p; card = card }) base (suc k) →
         (steps : ℕ) × IsAfter (record { plan = p; card = card }) m steps × (suc k ≤ steps) }
+    ensures never_back { (card : Map) (dates : Dates) (base m : Map) → LeftByRunsOn card dates base m → (j k : ℕ) → IsAfterOn card dates base j → IsAfterOn card dates m k → j ≤ k }
 {}
 
-/// A map is after one number of steps at most.
+/// A map is after one number of steps at most, whichever plans and cards they are of.
 pub fn one_progress()
-    ensures { (o : Offload) → IsPlan o.plan → (m : Map) (j k : ℕ) → IsAfter o m j → IsAfter o m k → j ≡ k }
+    ensures by_plan { (o r : Offload) (m : Map) (j k : ℕ) → IsAfter o m j → IsAfter r m k → j ≡ k }
+    ensures on_card { (card other : Map) (dates others : Dates) (m : Map) (j k : ℕ) → IsAfterOn card dates m j → IsAfterOn other others m k → j ≡ k }
+{}
+
+/// A plan of a card has as many files as the card.
+pub fn one_file_each()
+    ensures { (card : Map) (dates : Dates) (p : PlanValue) → IsPlan p → IsOfCard card dates p → length p.files ≡ length (keys card) }
 {}
 
 /// A list that is sealed in place is whole or absent at any moment, and every other file stays.

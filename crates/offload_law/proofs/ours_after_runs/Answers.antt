@@ -1,4 +1,4 @@
-use Rattle.offload_law.proofs.Runs.{ours_stays, steps_stay}
+use Rattle.offload_law.proofs.Runs.{ours_stays, steps_stay, never_back}
 use Rattle.offload_law.proofs.ours_after_runs.Goals as goal
 
 pub returns-clause-ours : goal.returns-clause-ours
@@ -6,3 +6,6 @@ returns-clause-ours c = ours_stays
 
 pub returns-clause-kept : goal.returns-clause-kept
 returns-clause-kept c = steps_stay
+
+pub returns-clause-never_back : goal.returns-clause-never_back
+returns-clause-never_back c = never_back
