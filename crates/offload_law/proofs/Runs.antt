@@ -47,7 +47,7 @@ after_runs o plan base m first at (stopped {start = start} before s there d L mo
 
 module _ (card : Map) (dates : Dates) where
   -- a map after some steps of a plan of the card
-  after_on : (p : PlanValue) → IsOfCard card dates p → IsPlan p → (m : Map) (steps : ℕ) → IsAfter (record { plan = p; card = card }) m steps → IsAfterOn card dates m steps
+  pub after_on : (p : PlanValue) → IsOfCard card dates p → IsPlan p → (m : Map) (steps : ℕ) → IsAfter (record { plan = p; card = card }) m steps → IsAfterOn card dates m steps
   after_on p of plan m zero after = fresh after.stage after.at after.done
     where
       fresh : (s : Stage) → IsAt (record { plan = p; card = card }) m s → progress p s ≡ 0 → get m journal_path ≡ None

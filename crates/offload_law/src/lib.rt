@@ -1,10 +1,9 @@
 //! How far an offload of a card comes on a drive, and what a stop leaves of it.
 #![tactic(auto)]
 
-ghost use Rattle.std.specs.Prelude.{◌≡◌, ◌≢◌, ℕ, List, ◌∷◌, ◌++◌, ◌^◌, ◌<◌, ◌≤◌, suc, Bool, true, length, take, codes};
+ghost use Rattle.std.specs.Prelude.{◌≡◌, ◌≢◌, ℕ, List, ◌++◌, ◌^◌, ◌<◌, ◌≤◌, ◌⊎◌, suc, length, take, codes, Contains};
 ghost use Rattle.std.specs.FinMap.{keys};
 ghost use Rattle.bay_core.specs.declared.event.Event.{Event};
-ghost use Rattle.bay_core.specs.declared.event.Event.TheVariants.{Say};
 ghost use Rattle.bay_core.specs.Map.{Map, Dates};
 ghost use Rattle.bay_core.specs.Left.{Left};
 ghost use Rattle.bay_core.specs.Paths.{IsScratch};
@@ -14,9 +13,9 @@ ghost use Rattle.crash_law.specs.Protocol.{State, IsIn, Announced};
 ghost use Rattle.crash_law.specs.Law.{CrashLaw, Stays};
 ghost use Rattle.crash_law.specs.Lines.{AllLines};
 ghost use Rattle.copy_plan.specs.Plan.{PlanValue, IsPlan};
-ghost use Rattle.offload_law.specs.Clear.{clear_text, is_called_sealed, sealed_drives, CountsSealed};
+ghost use Rattle.offload_law.specs.Clear.{clear_text, IsTold, IsCalledSealed, AreCalledSealed};
 ghost use Rattle.offload_law.specs.Lines.{IsShort, Announces, announces, begun_text, done_text, sealed_text};
-ghost use Rattle.offload_law.specs.Stages.{Offload, Stage, IsAt, IsAfter, IsAfterOn, StandsAfter, HoldsPlan, IsOfCard, IsOurs, KeepsRest, progress};
+ghost use Rattle.offload_law.specs.Stages.{Offload, Stage, IsAt, IsAfter, IsAfterOn, StandsAfter, HoldsPlan, IsOfCard, IsOurs, KeepsRest, all_steps, progress};
 ghost use Rattle.offload_law.specs.Steps.{offload};
 ghost use Rattle.offload_law.specs.InPlace.{seal_in_place};
 ghost use Rattle.offload_law.specs.Runs.{LeftByRuns, LeftByRunsOn};
@@ -47,19 +46,24 @@ pub fn sealed_for_good()
         (I : Map) → Left start L d I → IsAfter o I (suc (suc (length o.plan.files))) }
 {}
 
-/// A drive whose line `sealed` is said has all its steps at each stop from then on.
+/// A drive that was called sealed has all its steps at each stop from then on. So has each of the drives that were called
+/// sealed before a moment, each with an offload of its own.
 pub fn called_sealed()
-    ensures { (o : Offload) → IsPlan o.plan → (start : Map) (s : Stage) → IsAt o start s →
-        (d : ℕ) (L more : List Event) (end : State (offload d o start)) → IsIn (offload d o start) d start s (L ++ more) end →
-        is_called_sealed o.plan L d ≡ true →
-        (I : Map) → Left start L d I → IsAfter o I (suc (suc (length o.plan.files))) }
+    ensures each { (o : Offload) → IsPlan o.plan → (start : Map) (s : Stage) → IsAt o start s →
+        (d : ℕ) (before since more : List Event) (end : State (offload d o start)) → IsIn (offload d o start) d start s ((before ++ since) ++ more) end →
+        IsCalledSealed d before → (I : Map) → Left start (before ++ since) d I → IsAfter o I (suc (suc (length o.plan.files))) }
+    ensures on_card { (o : Offload) → IsPlan o.plan → (dates : Dates) → IsOfCard o.card dates o.plan → (start : Map) (s : Stage) → IsAt o start s →
+        (drives : List ℕ) (before : List Event) → AreCalledSealed drives before → (d : ℕ) → Contains drives d →
+        (since more : List Event) (end : State (offload d o start)) → IsIn (offload d o start) d start s ((before ++ since) ++ more) end →
+        (I : Map) → Left start (before ++ since) d I → IsAfterOn o.card dates I (all_steps o.card) }
 {}
 
-/// Where the card is called clear, as many drives as are required were called sealed before.
-pub fn called_clear()
-    ensures { (p : PlanValue) (drives copies : ℕ) (L : List Event) → CountsSealed p drives copies L →
-        (before after : List Event) (sealed required : ℕ) (ok : Bool) → L ≡ before ++ Say (clear_text sealed required) ok ∷ after →
-        copies ≤ sealed_drives p L drives }
+/// The announced steps of an offload are the greatest number of those that its drive had and those that a line announces.
+pub fn greatest_told()
+    ensures least { (o : Offload) (start : Map) (d told : ℕ) (L : List Event) → (told ≤ Announced (offload d o start) told L)
+        × ((steps : ℕ) → IsTold d (length o.plan.files) L steps → steps ≤ Announced (offload d o start) told L) }
+    ensures one { (o : Offload) (start : Map) (d told : ℕ) (L : List Event) →
+        (Announced (offload d o start) told L ≡ told) ⊎ IsTold d (length o.plan.files) L (Announced (offload d o start) told L) }
 {}
 
 /// Calls on other devices, with lines that announce nothing for the drive, leave the drive as it was, and what is
@@ -114,5 +118,5 @@ pub fn announced_steps()
     ensures done_elsewhere { (d e n : ℕ) → d < 2 ^ 64 → e < 2 ^ 64 → d ≢ e → (k m : ℕ) (path : List ℕ) → announces d n (done_text e k m path) ≡ 0 }
     ensures sealed_elsewhere { (d e n : ℕ) → d < 2 ^ 64 → e < 2 ^ 64 → d ≢ e → (m : ℕ) (list : List ℕ) → announces d n (sealed_text e m list) ≡ 0 }
     ensures other_word { (d n : ℕ) (line : List ℕ) → take 6 line ≢ codes "begun " → take 5 line ≢ codes "done " → take 7 line ≢ codes "sealed " → announces d n line ≡ 0 }
-    ensures clear { (d n sealed required : ℕ) → announces d n (clear_text sealed required) ≡ 0 }
+    ensures clear { (d n drives required : ℕ) → announces d n (clear_text drives required) ≡ 0 }
 {}
