@@ -12,16 +12,17 @@ use Rattle.bay_core.specs.Looks.{is_change}
 use Rattle.crash_law.specs.Protocol.{IsSafe, is_done}
 use Rattle.bay_core.proofs.Changes.{Renamed, moved_renamed, torn_renamed, torn_other}
 use Rattle.bay_core.specs.Paths.{IsScratch, new_path}
-use Rattle.offload_law.specs.InPlace.{Seal, Open, Shut, steps, IsSeal, SealPrepares, SealCommits, shuts, seal_in_place}
+use Rattle.offload_law.specs.InPlace.{Seal, Open, Shut, steps, IsSeal, IsWholeOrAbsent, SealPrepares, SealCommits, shuts, seal_in_place}
 
-module _ (list : List ℕ) (not_scratch : IsScratch list → ⊥) (base : Map) where
-  scratch_keeps : (s : Seal) (m new : Map) → IsSeal list base s m → ((q : List ℕ) → (IsScratch q → ⊥) → get new q ≡ get m q) → IsSeal list base s new
+module _ (list : List ℕ) (not_scratch : IsScratch list → ⊥) (Whole : List ℕ → Type 0) (base : Map) where
+  scratch_keeps : (s : Seal) (m new : Map) → IsSeal list Whole base s m → ((q : List ℕ) → (IsScratch q → ⊥) → get new q ≡ get m q) → IsSeal list Whole base s new
   scratch_keeps s m new h e = record {
     at_list = e list not_scratch ∙ h.at_list;
+    whole = h.whole;
     elsewhere = λ q a b. e q a ∙ h.elsewhere q a b;
   }
 
-  prepared : (s : Seal) (e : Event) (m new : Map) → SealPrepares s e → IsSeal list base s m → Torn e m new → IsSeal list base s new
+  prepared : (s : Seal) (e : Event) (m new : Map) → SealPrepares s e → IsSeal list Whole base s m → Torn e m new → IsSeal list Whole base s new
   prepared s (Write d path at piece ok) m new free h torn = scratch_keeps s m new h (λ q f. torn_other (Write d path at piece ok) m new torn q (λ e. f (subst IsScratch (sym e) free)))
   prepared s (Remove d path ok) m new free h torn = scratch_keeps s m new h (λ q f. torn_other (Remove d path ok) m new torn q (λ e. f (subst IsScratch (sym e) free)))
   prepared s (Rename d from to ok) m new free h torn = absurd free
@@ -37,21 +38,22 @@ module _ (list : List ℕ) (not_scratch : IsScratch list → ⊥) (base : Map) w
   prepared s (Pick n) m new free h torn = absurd free
   prepared s (Say line ok) m new free h torn = absurd free
 
-  shut : (m new : Map) → Renamed m new new_path list → (text : List ℕ) → get m new_path ≡ Some text → IsSeal list base Open m → IsSeal list base (Shut text) new
-  shut m new to text is h = record {
+  shut : (m new : Map) → Renamed m new new_path list → (text : List ℕ) → get m new_path ≡ Some text → Whole text → IsSeal list Whole base Open m → IsSeal list Whole base (Shut text) new
+  shut m new to text is whole h = record {
     at_list = to.here text is;
+    whole = whole;
     elsewhere = λ q a b. to.other q (λ e. a (inl e)) b ∙ h.elsewhere q a b;
   }
 
-  committed : {m new : Map} {s t : Seal} {e : Event} → SealCommits list m s e t → IsSeal list base s m → Torn e m new → IsSeal list base s new ⊎ IsSeal list base t new
-  committed {m = m} {new = new} (shuts {d = d} {ok = ok} {text = text} is) h torn = elim (torn_renamed d ok m new new_path list torn) [
-    | inl same ↦ inl (subst (IsSeal list base Open) (sym same) h)
-    | inr to ↦ inr (shut m new to text is h)
+  committed : {m new : Map} {s t : Seal} {e : Event} → SealCommits list Whole m s e t → IsSeal list Whole base s m → Torn e m new → IsSeal list Whole base s new ⊎ IsSeal list Whole base t new
+  committed {m = m} {new = new} (shuts {d = d} {ok = ok} {text = text} is whole) h torn = elim (torn_renamed d ok m new new_path list torn) [
+    | inl same ↦ inl (subst (IsSeal list Whole base Open) (sym same) h)
+    | inr to ↦ inr (shut m new to text is whole h)
   ]
 
-  done : {m : Map} {s t : Seal} {e : Event} → SealCommits list m s e t → is_done e ≡ true → IsSeal list base s m → IsSeal list base t (changed m e)
-  done {m = m} (shuts {ok = true} {text = text} is) t h = shut m (moved m new_path list) (moved_renamed m new_path list) text is h
-  done (shuts {ok = false} is) t h = absurd (false≢true t)
+  done : {m : Map} {s t : Seal} {e : Event} → SealCommits list Whole m s e t → is_done e ≡ true → IsSeal list Whole base s m → IsSeal list Whole base t (changed m e)
+  done {m = m} (shuts {ok = true} {text = text} is whole) t h = shut m (moved m new_path list) (moved_renamed m new_path list) text is whole h
+  done (shuts {ok = false} is whole) t h = absurd (false≢true t)
 
   prepares_failed : (s : Seal) (e : Event) → SealPrepares s e → SealPrepares s (failed e)
   prepares_failed s (Write d path at piece ok) h = h
@@ -85,19 +87,19 @@ module _ (list : List ℕ) (not_scratch : IsScratch list → ⊥) (base : Map) w
   prepares_change s (Pick n) h = absurd h
   prepares_change s (Say line ok) h = absurd h
 
-  commits_failed : {m : Map} {s t : Seal} {e : Event} → SealCommits list m s e t → SealCommits list m s (failed e) t
-  commits_failed (shuts is) = shuts is
+  commits_failed : {m : Map} {s t : Seal} {e : Event} → SealCommits list Whole m s e t → SealCommits list Whole m s (failed e) t
+  commits_failed (shuts is whole) = shuts is whole
 
-  rises : {m : Map} {s t : Seal} {e : Event} → SealCommits list m s e t → steps t ≡ 1
-  rises (shuts is) = refl
+  rises : {m : Map} {s t : Seal} {e : Event} → SealCommits list Whole m s e t → steps t ≡ 1
+  rises (shuts is whole) = refl
 
-  starts : {m : Map} {s t : Seal} {e : Event} → SealCommits list m s e t → steps s ≡ 0
-  starts (shuts is) = refl
+  starts : {m : Map} {s t : Seal} {e : Event} → SealCommits list Whole m s e t → steps s ≡ 0
+  starts (shuts is whole) = refl
 
-  commits_change : {m : Map} {s t : Seal} {e : Event} → SealCommits list m s e t → IsTrue (is_change e)
-  commits_change (shuts is) = refl
+  commits_change : {m : Map} {s t : Seal} {e : Event} → SealCommits list Whole m s e t → IsTrue (is_change e)
+  commits_change (shuts is whole) = refl
 
-  pub safe : (announces : List ℕ → ℕ) → IsSafe (seal_in_place list announces base)
+  pub safe : (announces : List ℕ → ℕ) → IsSafe (seal_in_place list Whole announces base)
   safe announces = record {
     prepared = prepared;
     committed = λ s t e m new c h torn. committed c h torn;
@@ -108,3 +110,8 @@ module _ (list : List ℕ) (not_scratch : IsScratch list → ⊥) (base : Map) w
     prepares_change = prepares_change;
     commits_change = λ s t e m c. commits_change c;
   }
+
+  -- at each stage the list is whole or absent
+  pub whole_or_absent : (s : Seal) (m : Map) → IsSeal list Whole base s m → IsWholeOrAbsent list Whole base m
+  whole_or_absent Open m h = record { at_list = inl h.at_list; elsewhere = h.elsewhere }
+  whole_or_absent (Shut text) m h = record { at_list = inr (text, h.at_list, h.whole); elsewhere = h.elsewhere }

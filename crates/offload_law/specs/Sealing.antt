@@ -1,5 +1,6 @@
 -- The list that seals a drive: docs/FORMATS.md, "Lists".
-use Rattle.std.specs.Prelude.{ℕ, Bool, if◌then◌else◌, List, [], ◌∷◌, codes, Option, Some, None}
+use Rattle.std.specs.Prelude.{◌≡◌, ◌≤◌, ℕ, Bool, if◌then◌else◌, List, [], ◌∷◌, codes, Option, Some, None}
+use Rattle.path_text.specs.Moment.{last_moment}
 use Rattle.path_text.specs.declared.kinds.Kinds.{Kinds}
 use Rattle.mhl_writer.specs.declared.values.HashEntry.{HashEntry}
 use Rattle.mhl_writer.specs.declared.values.Creator.{Creator}
@@ -48,3 +49,7 @@ sealed_values p recs finish = record { creator = sealed_creator p finish; entrie
 -- its text
 unfoldable pub plan_list_text : PlanValue → List Rec → ℕ → List ℕ
 plan_list_text p recs finish = list_text (sealed_values p recs finish)
+
+-- a whole list of a plan and its records: with some finish, a moment
+abbrev pub IsListText : PlanValue → List Rec → List ℕ → Type 0
+IsListText p recs text = (finish : ℕ) × (finish ≤ last_moment) × (text ≡ plan_list_text p recs finish)

@@ -12,12 +12,14 @@ ghost use Rattle.bay_core.specs.Went.{AllOn};
 ghost use Rattle.crash_law.specs.Protocol.{State, IsIn, Announced};
 ghost use Rattle.crash_law.specs.Law.{CrashLaw, Stays};
 ghost use Rattle.crash_law.specs.Lines.{AllLines};
+ghost use Rattle.drive_journal.specs.declared.record.Rec.{Rec};
 ghost use Rattle.copy_plan.specs.Plan.{PlanValue, IsPlan};
 ghost use Rattle.offload_law.specs.Clear.{clear_text, IsTold, IsCalledSealed, AreCalledSealed};
 ghost use Rattle.offload_law.specs.Lines.{IsShort, Announces, announces, begun_text, done_text, sealed_text};
+ghost use Rattle.offload_law.specs.Sealing.{IsListText};
 ghost use Rattle.offload_law.specs.Stages.{Offload, Stage, IsAt, IsAfter, IsAfterOn, StandsAfter, HoldsPlan, IsOfCard, IsOurs, KeepsRest, all_steps, progress};
 ghost use Rattle.offload_law.specs.Steps.{offload};
-ghost use Rattle.offload_law.specs.InPlace.{seal_in_place};
+ghost use Rattle.offload_law.specs.InPlace.{Seal, IsSeal, IsWholeOrAbsent, seal_in_place};
 ghost use Rattle.offload_law.specs.Runs.{LeftByRuns, LeftByRunsOn};
 
 /// Wherever a run that keeps to the steps stops, within a write too, the drive is left with a prefix of the offload's
@@ -100,9 +102,15 @@ pub fn one_file_each()
     ensures { (card : Map) (dates : Dates) (p : PlanValue) → IsPlan p → IsOfCard card dates p → length p.files ≡ length (keys card) }
 {}
 
-/// A list that is sealed in place is whole or absent at any moment, and every other file stays.
+/// A list of a plan and its records that is sealed in place is whole or absent wherever the run stops, and every other
+/// file but the scratch files stays.
 pub fn sealed_in_place()
-    ensures { (list : List ℕ) → (IsScratch list → ⊥) → (announces : List ℕ → ℕ) (base : Map) → CrashLaw (seal_in_place list announces base) }
+    ensures law { (list : List ℕ) → (IsScratch list → ⊥) → (p : PlanValue) (recs : List Rec) (announces : List ℕ → ℕ) (base : Map) →
+        CrashLaw (seal_in_place list (IsListText p recs) announces base) }
+    ensures whole { (list : List ℕ) → (IsScratch list → ⊥) → (p : PlanValue) (recs : List Rec) (announces : List ℕ → ℕ) (base start : Map) (s : Seal) →
+        IsSeal list (IsListText p recs) base s start → (d : ℕ) (L more : List Event) (end : State (seal_in_place list (IsListText p recs) announces base)) →
+        IsIn (seal_in_place list (IsListText p recs) announces base) d start s (L ++ more) end →
+        (I : Map) → Left start L d I → IsWholeOrAbsent list (IsListText p recs) base I }
 {}
 
 /// The lines `begun`, `done` and `sealed` of a drive announce its steps, whatever numbers of at most 64 digits, paths and names
