@@ -17,10 +17,19 @@ const LAST_MOMENT: u64 = 253_402_300_799;
 
 /// Folders of the system as cards and drives, and standard output.
 ///
-/// A path is one below the folder of its card or drive, with `/` between its parts. Links and
-/// special files are no files here: they are not listed, and not read, written, renamed or removed.
-/// The file of each device that was used last stays open. Want of memory for a path, a listing or
-/// the note of a change counts as a failed call of the device.
+/// A path is one below the folder of its card or drive, with `/` between its parts. That folder may
+/// be a link; no link below it is followed. Before a file is opened, renamed or removed, each folder
+/// on its way is looked at, and what stands at its path. The call fails where a folder on the way is
+/// neither absent nor a folder, where anything but a file stands at the path, and where a part is
+/// `..`. Somebody who puts a link in the place of a folder or a file between the look and the use
+/// is not seen. docs/DECISIONS.md, "Real folders".
+///
+/// Links and special files are not listed. A name that is not UTF-8 makes a listing fail; attaching
+/// a drive passes over it.
+///
+/// The file of each device that was used last stays open, and is read and written without another
+/// look. Want of memory for a path, a listing or the note of a change counts as a failed call of the
+/// device.
 #[derive(Drop)]
 pub struct HostBay<R: Files<File = File> + AllocGlobal + Clone + Drop + Print + Clock> {
     rt: R,

@@ -7,6 +7,8 @@
 mod folder;
 mod host_bay;
 mod host_drive;
+#[cfg(test)]
+mod link_tests;
 mod open_folder;
 #[cfg(test)]
 mod tests;

@@ -1,7 +1,7 @@
 ghost use Rattle.std.specs.Prelude.{◌≤◌, length, IfOk, IfSome};
 
 use crate::folder::{
-    Found, find, folder_of, joined, list_files, make_folder, sync_below, sync_path,
+    folder_ending, folder_of, has_file, joined, list_files, make_folder, sync_at, sync_below,
 };
 use bay_core::FileInfo;
 use std::alloc::{AllocError, Global};
@@ -41,15 +41,14 @@ fn open_to_read<R: Files<File = File> + AllocGlobal>(
     root: &str,
     path: &str,
 ) -> io::Result<Option<OpenFile>> {
-    let alloc = rt.alloc();
-    let full = joined(alloc, root, path)?;
-    let Found::File = find(rt, &full)? else {
+    if !has_file(rt, root, path)? {
         return Ok(None);
-    };
+    }
+    let alloc = rt.alloc();
     Ok(Some(OpenFile {
         path: path.to_owned(alloc)?,
         mode: Mode::Read,
-        file: fs::open(rt, full.as_str())?,
+        file: fs::open(rt, joined(alloc, root, path)?.as_str())?,
     }))
 }
 
@@ -154,12 +153,9 @@ impl OpenFolder {
         path: &str,
         end: usize,
     ) -> io::Result<()> {
-        let Some((folder, rest)) = path.split_at_checked(end) else {
+        let Some(folder) = folder_ending(path, end) else {
             return Ok(());
         };
-        if !rest.starts_with('/') {
-            return Ok(());
-        }
         let alloc = rt.alloc();
         self.note(alloc, folder)?;
         make_folder(rt, &joined(alloc, &self.root, folder)?)
@@ -175,22 +171,22 @@ impl OpenFolder {
         Ok(())
     }
 
-    // Opens a file to write, and makes it and its folders where they are absent.
+    // Opens a file to write. One that is not there is made with its folders, and is not opened if
+    // something came to stand at its path meanwhile.
     fn open_to_write<R: Files<File = File> + AllocGlobal>(
         &mut self,
         rt: &R,
         path: &str,
+        is_there: bool,
     ) -> io::Result<OpenFile> {
+        if !is_there {
+            self.make_folders(rt, path)?;
+        }
         let alloc = rt.alloc();
         let full = joined(alloc, &self.root, path)?;
-        match find(rt, &full)? {
-            Found::File => {}
-            Found::Nothing => self.make_folders(rt, path)?,
-            Found::Other => return Err(Error::from(ErrorKind::AlreadyExists)),
-        }
         let file = OpenOptions::new()
             .write(true)
-            .create(true)
+            .create_new(!is_there)
             .open(rt, full.as_str())?;
         Ok(OpenFile {
             path: path.to_owned(alloc)?,
@@ -207,9 +203,11 @@ impl OpenFolder {
         at: u64,
         bytes: &[u8],
     ) -> io::Result<()> {
+        let is_open = self.is_open(path, Mode::Write);
+        let is_there = is_open || has_file(rt, &self.root, path)?;
         self.note(rt.alloc(), path)?;
-        if !self.is_open(path, Mode::Write) {
-            self.open = Some(self.open_to_write(rt, path)?);
+        if !is_open {
+            self.open = Some(self.open_to_write(rt, path, is_there)?);
         }
         match &self.open {
             Some(open) => write_piece(&open.file, at, bytes),
@@ -220,13 +218,13 @@ impl OpenFolder {
     /// Makes sure of all that changed since the last time that this answered Ok.
     pub fn sync<R: Files<File = File> + AllocGlobal>(&mut self, rt: &R) -> io::Result<()> {
         for path in &self.changed {
-            sync_path(rt, &joined(rt.alloc(), &self.root, path)?)?;
+            sync_at(rt, &self.root, path)?;
         }
         self.changed.clear();
         Ok(())
     }
 
-    /// Renames a file that is there, over the one that is at `to`.
+    /// Renames a file that is there, over the file that is at `to`, if one is.
     pub fn rename<R: Files + AllocGlobal>(
         &mut self,
         rt: &R,
@@ -234,12 +232,13 @@ impl OpenFolder {
         to: &str,
     ) -> io::Result<()> {
         self.open = None;
+        if !has_file(rt, &self.root, from)? {
+            return Err(Error::from(ErrorKind::NotFound));
+        }
+        let _ = has_file(rt, &self.root, to)?;
         let alloc = rt.alloc();
         let source = joined(alloc, &self.root, from)?;
         let target = joined(alloc, &self.root, to)?;
-        let Found::File = find(rt, &source)? else {
-            return Err(Error::from(ErrorKind::NotFound));
-        };
         self.note(alloc, folder_of(from))?;
         self.note(alloc, to)?;
         self.make_folders(rt, to)?;
@@ -250,14 +249,14 @@ impl OpenFolder {
         Ok(())
     }
 
-    /// Removes a file. Where there is none, nothing changes.
+    /// Removes a file. Where nothing stands at its path, nothing changes.
     pub fn remove<R: Files + AllocGlobal>(&mut self, rt: &R, path: &str) -> io::Result<()> {
         self.open = None;
+        if !has_file(rt, &self.root, path)? {
+            return Ok(());
+        }
         let alloc = rt.alloc();
         let full = joined(alloc, &self.root, path)?;
-        let Found::File = find(rt, &full)? else {
-            return Ok(());
-        };
         self.note(alloc, folder_of(path))?;
         fs::remove_file(rt, full.as_str())?;
         self.changed.remove(path);
