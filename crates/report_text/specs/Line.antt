@@ -3,7 +3,7 @@ use Rattle.std.specs.Prelude.{ℕ, ◌≤◌, ◌-◌, ◌++◌, List, [], ◌�
 use Rattle.hex.specs.Hex.{encode_lower}
 use Rattle.path_text.specs.Moment.{moment_text}
 use Rattle.report_text.specs.declared.line.Line.{Line}
-use Rattle.report_text.specs.declared.line.Line.TheVariants.{Missing, Unchecked, Unlisted, AlteredSize, AlteredMd5, AlteredSha1, AlteredXxh, Verdict, RefusedWords, FailedAttachDrive, FailedDrive, UnreadableAbsent, UnreadableToolarge, UnreadableVersion, Unreadable, Name, Username, Hostname, Tool, Startdate, Finishdate, Entry, Entries, Memory}
+use Rattle.report_text.specs.declared.line.Line.TheVariants.{Missing, Unchecked, Unlisted, AlteredSize, AlteredMd5, AlteredSha1, AlteredXxhash64be, Verdict, RefusedWords, FailedAttachDrive, FailedDrive, UnreadableAbsent, UnreadableToolarge, UnreadableVersion, Unreadable, Name, Username, Hostname, Tool, Startdate, Finishdate, Entry, Entries, Memory}
 
 -- the fields of a line, with one space (32) between each two
 abbrev pub fields : List ℕ → List (List ℕ) → List ℕ
@@ -42,8 +42,8 @@ altered_md5_text listed found path = fields (codes "altered md5") (encode_lower 
 abbrev pub altered_sha1_text : List ℕ → List ℕ → List ℕ → List ℕ
 altered_sha1_text listed found path = fields (codes "altered sha1") (encode_lower listed ∷ encode_lower found ∷ path ∷ [])
 
-abbrev pub altered_xxh_text : List ℕ → List ℕ → List ℕ → List ℕ
-altered_xxh_text listed found path = fields (codes "altered xxhash64be") (encode_lower listed ∷ encode_lower found ∷ path ∷ [])
+abbrev pub altered_xxhash64be_text : List ℕ → List ℕ → List ℕ → List ℕ
+altered_xxhash64be_text listed found path = fields (codes "altered xxhash64be") (encode_lower listed ∷ encode_lower found ∷ path ∷ [])
 
 abbrev pub verdict_text : List ℕ → ℕ → ℕ → ℕ → ℕ → ℕ → List ℕ
 verdict_text word entries missing altered unchecked unlisted =
@@ -88,7 +88,7 @@ line_text (Unlisted path) = unlisted_text path.now
 line_text (AlteredSize listed found path) = altered_size_text listed found path.now
 line_text (AlteredMd5 listed found path) = altered_md5_text listed found path.now
 line_text (AlteredSha1 listed found path) = altered_sha1_text listed found path.now
-line_text (AlteredXxh listed found path) = altered_xxh_text listed found path.now
+line_text (AlteredXxhash64be listed found path) = altered_xxhash64be_text listed found path.now
 line_text (Verdict word entries missing altered unchecked unlisted) = verdict_text word.now entries missing altered unchecked unlisted
 line_text RefusedWords = codes "refused words"
 line_text (FailedAttachDrive d) = failed_attach_drive_text d
@@ -115,7 +115,7 @@ IsShort (Unlisted path) = length path.now ≤ 1024
 IsShort (AlteredSize listed found path) = length path.now ≤ 1024
 IsShort (AlteredMd5 listed found path) = length path.now ≤ 1024
 IsShort (AlteredSha1 listed found path) = length path.now ≤ 1024
-IsShort (AlteredXxh listed found path) = length path.now ≤ 1024
+IsShort (AlteredXxhash64be listed found path) = length path.now ≤ 1024
 IsShort (Verdict word entries missing altered unchecked unlisted) = length word.now ≤ 1024
 IsShort (Unreadable what at) = length what.now ≤ 1024
 IsShort (Name note) = IfSome note (λ t. length t.now ≤ 1024)

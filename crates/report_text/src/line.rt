@@ -25,7 +25,7 @@ pub enum Line<'a> {
     /// `altered sha1 LISTED FOUND PATH`.
     AlteredSha1([u8; 20], [u8; 20], &'a str),
     /// `altered xxhash64be LISTED FOUND PATH`.
-    AlteredXxh([u8; 8], [u8; 8], &'a str),
+    AlteredXxhash64be([u8; 8], [u8; 8], &'a str),
     /// `verdict V E entries M missing A altered U unchecked X unlisted`, V being `good`, `bad` or `unchecked`.
     Verdict(&'a str, u64, u64, u64, u64, u64),
     /// `refused words`: the words fit no command.
@@ -162,7 +162,7 @@ pub fn line_into(line: &Line<'_>, out: &mut Scratch)
         Line::AlteredSha1(listed, found, path) => {
             altered_digest(out, b"altered sha1", listed, found, path)
         }
-        Line::AlteredXxh(listed, found, path) => {
+        Line::AlteredXxhash64be(listed, found, path) => {
             altered_digest(out, b"altered xxhash64be", listed, found, path)
         }
         Line::Verdict(word, entries, missing, altered, unchecked, unlisted) => {
@@ -261,7 +261,7 @@ mod tests {
         says(
             &rt,
             &mut out,
-            &Line::AlteredXxh(
+            &Line::AlteredXxhash64be(
                 [0xef, 0x46, 0xdb, 0x37, 0x51, 0xd8, 0xe9, 0x99],
                 [0; 8],
                 "u.mov",

@@ -14,7 +14,7 @@ use Rattle.sha1.specs.Sha1.{sha1}
 use Rattle.digest_set.specs.Xxh.{xxh}
 use Rattle.digest_set.specs.Triple.{triple}
 use Rattle.digest_set.specs.declared.triple.Triple.{Triple}
-use Rattle.report_text.specs.Line.{altered_size_text, altered_md5_text, altered_sha1_text, altered_xxh_text}
+use Rattle.report_text.specs.Line.{altered_size_text, altered_md5_text, altered_sha1_text, altered_xxhash64be_text}
 use Rattle.mhl_writer.specs.ListText.{Values, has_digest}
 use Rattle.mhl_writer.specs.declared.values.HashEntry.{HashEntry}
 use Rattle.mhl_reader.specs.Reading.{Reading}
@@ -75,7 +75,7 @@ good_entry kinds bytes f r some size digests =
     let t = r.triple in
     let md5_line = no_digest_line md5 altered_md5_text f.path kinds.md5 t.md5 bytes (ap (λ (t : Triple). t.md5) digests) in
     let sha1_line = no_digest_line sha1 altered_sha1_text f.path kinds.sha1 t.sha1 bytes (ap (λ (t : Triple). t.sha1) digests) in
-    let xxh_line = no_digest_line xxh altered_xxh_text f.path kinds.xxh t.xxh bytes (ap (λ (t : Triple). t.xxh) digests) in
+    let xxh_line = no_digest_line xxh altered_xxhash64be_text f.path kinds.xxh t.xxh bytes (ap (λ (t : Triple). t.xxh) digests) in
     let none : altered_lines (sealed_entry kinds f r) bytes ≡ [] = none_of_four _ _ _ _ (no_size_line f.path f.size bytes size) md5_line sha1_line xxh_line in
     let shows : has_digest (sealed_entry kinds f r) ≡ true = some_shown kinds.md5 kinds.sha1 kinds.xxh t.md5 t.sha1 t.xxh some in
     ap (λ (l : List (List ℕ)). standing_by l (has_digest (sealed_entry kinds f r))) none ∙ ap (λ (b : Bool). standing_by [] b) shows

@@ -9,7 +9,7 @@ use Rattle.path_text.specs.Path.{is_path, is_control_path}
 use Rattle.bay_core.specs.Map.{Map}
 use Rattle.mhl_writer.specs.ListText.{has_digest}
 use Rattle.mhl_writer.specs.declared.values.HashEntry.{HashEntry}
-use Rattle.report_text.specs.Line.{missing_text, unchecked_text, unlisted_text, altered_size_text, altered_md5_text, altered_sha1_text, altered_xxh_text, verdict_text}
+use Rattle.report_text.specs.Line.{missing_text, unchecked_text, unlisted_text, altered_size_text, altered_md5_text, altered_sha1_text, altered_xxhash64be_text, verdict_text}
 use Rattle.report_text.specs.Shown.{shown}
 use Rattle.verify_run.specs.declared.verdict.Standing.{Standing}
 use Rattle.verify_run.specs.declared.verdict.Standing.TheVariants.{Absent, Altered, Uncheckable, Good}
@@ -37,7 +37,7 @@ altered_lines e bytes =
     size_lines e.path e.size bytes
     ++ digest_lines md5 altered_md5_text e.path e.md5 bytes
     ++ digest_lines sha1 altered_sha1_text e.path e.sha1 bytes
-    ++ digest_lines xxh altered_xxh_text e.path e.xxh bytes
+    ++ digest_lines xxh altered_xxhash64be_text e.path e.xxh bytes
 
 -- there is no line
 abbrev pub is_empty : List (List ℕ) → Bool

@@ -4,7 +4,7 @@ ghost use Rattle.std.specs.List.{flat_map, AllByRecursion};
 ghost use Rattle.md5.specs.Md5.{md5};
 ghost use Rattle.sha1.specs.Sha1.{sha1};
 ghost use Rattle.digest_set.specs.Xxh.{xxh};
-ghost use Rattle.report_text.specs.Line.{IsShort, altered_md5_text, altered_sha1_text, altered_xxh_text};
+ghost use Rattle.report_text.specs.Line.{IsShort, altered_md5_text, altered_sha1_text, altered_xxhash64be_text};
 ghost use Rattle.verify_run.specs.Report.{size_lines, digest_lines, altered_lines};
 ghost use Rattle.verify_run.specs.Results.{DigestsOf, texts};
 
@@ -51,7 +51,7 @@ fn sha1_line<'a>(entry: &'a HashEntry, found: Option<[u8; 20]>) -> Option<Line<'
 }
 
 fn xxh_line<'a>(entry: &'a HashEntry, found: Option<[u8; 8]>) -> Option<Line<'a>>
-    ensures text { (bytes : List ℕ) → found ≡ option_map (λ _. xxh bytes) entry.now.xxh → texts result ≡ digest_lines xxh altered_xxh_text entry.now.path entry.now.xxh bytes }
+    ensures text { (bytes : List ℕ) → found ≡ option_map (λ _. xxh bytes) entry.now.xxh → texts result ≡ digest_lines xxh altered_xxhash64be_text entry.now.path entry.now.xxh bytes }
     ensures short { IfSome result IsShort }
 {
     let (Some(listed), Some(found)) = (entry.xxh, found) else {
@@ -60,7 +60,7 @@ fn xxh_line<'a>(entry: &'a HashEntry, found: Option<[u8; 8]>) -> Option<Line<'a>
     if listed.as_slice() == found.as_slice() {
         return None;
     }
-    Some(Line::AlteredXxh(listed, found, entry.path.as_str()))
+    Some(Line::AlteredXxhash64be(listed, found, entry.path.as_str()))
 }
 
 /// A line for each recorded value that differs from that of the file, in the order size, MD5, SHA-1, XXH64.
