@@ -1,11 +1,16 @@
 -- Loading a list.
-use Rattle.std.proofs.Common.{◌≡◌, ◌⊎◌, inl, inr, ℕ, List, [], sym, subst, append-nil, refl}
-use Rattle.std.specs.Prelude.{Result, Ok, Err, Vec, bytes_eq}
+use Rattle.std.proofs.Common.{◌≡◌, ◌⊎◌, inl, inr, ℕ, List, [], ◌∷◌, sym, subst, append-nil, refl}
+use Rattle.std.specs.Prelude.{Some, None, Result, Ok, Err, Vec, bytes_eq}
 use Rattle.std.specs.Global.{Global}
 use Rattle.std.specs.List.{IsDistinct}
 use Rattle.bay_core.specs.declared.event.FileInfo.{FileInfo}
 use Rattle.bay_core.specs.World.{World}
+use Rattle.bay_core.specs.declared.event.Event.{Event}
+use Rattle.bay_core.specs.declared.event.Event.TheVariants.{DriveList}
+use Rattle.bay_core.specs.Replay.{Drive}
+use Rattle.bay_core.specs.Looks.{IsUntouched, Tiles}
 use Rattle.bay_core.proofs.Runs.{went_such}
+use Rattle.bay_core.proofs.Looking.{tiles_look, no_tiles, untouched_one, untouched_append, looks_keep, stops_keep}
 use Rattle.file_reading.specs.declared.listed.Content.{Content}
 use Rattle.file_reading.specs.declared.listed.Content.TheVariants.{Bytes, Unlisted, Absent as GoneThen, TooLarge as LargeThen}
 use Rattle.file_reading.specs.declared.listed.ListReadError.{ListReadError}
@@ -21,7 +26,7 @@ use Rattle.mhl_reader.specs.Reading.{FirstFault}
 use Rattle.mhl_writer.specs.ListText.{values_of, paths_of}
 use Rattle.verify_run.specs.declared.loading.LoadError.{LoadError}
 use Rattle.verify_run.specs.declared.loading.LoadError.TheVariants.{DriveFailed, Absent, TooLarge, Unreadable, Memory}
-use Rattle.verify_run.specs.Loading.{largest_list, Loaded}
+use Rattle.verify_run.specs.Loading.{largest_list, LoadCalls, Loaded}
 
 -- ---- nothing was read
 
@@ -107,6 +112,23 @@ module _ (d : ℕ) (path : List ℕ) (files : List FileInfo) (old new : World) w
       honest = λ m L h. tt;
       distinct = tt;
     }
+
+-- ---- loading changes nothing
+
+listed_keeps : (d : ℕ) (files : List FileInfo) (path : List ℕ) (calls L : List Event) → L ≡ DriveList d (Some files) ∷ calls → Tiles d path 0 calls → IsUntouched L
+listed_keeps d files path calls L is tiles =
+    subst IsUntouched (sym is) (untouched_append (DriveList d (Some files) ∷ []) calls (untouched_one (DriveList d (Some files)) refl) (looks_keep calls (tiles_look d path 0 calls tiles)))
+
+nothing_tiles : (d : ℕ) (path : List ℕ) (calls : List Event) → calls ≡ [] → Tiles d path 0 calls
+nothing_tiles d path calls none = subst (Tiles d path 0) (sym none) (no_tiles d path 0)
+
+pub load_keeps : (d : ℕ) (path : List ℕ) (r : Result HashList LoadError) (L : List Event) → LoadCalls d path r L → IsUntouched L
+load_keeps d path (Ok list) L (bytes, (files, t), means) = listed_keeps d files path t.calls L t.is t.such.1.tiles
+load_keeps d path (Err Absent) L (files, t) = listed_keeps d files path t.calls L t.is (elim t.such [ inl unlisted ↦ nothing_tiles d path t.calls unlisted.1 | inr gone ↦ gone.1.tiles ])
+load_keeps d path (Err (TooLarge len)) L (files, t) = listed_keeps d files path t.calls L t.is (elim t.such [ inl listed ↦ nothing_tiles d path t.calls listed.2 | inr past ↦ past.2.tiles ])
+load_keeps d path (Err (Unreadable e)) L (bytes, (files, t), fault) = listed_keeps d files path t.calls L t.is t.such.1.tiles
+load_keeps d path (Err DriveFailed) L stopped = stops_keep (Some (Drive d)) L stopped
+load_keeps d path (Err Memory) L stopped = stops_keep None L stopped
 
 pub loaded_as : (r : Result HashList LoadError) (d : ℕ) (p q : List ℕ) (old new : World) → p ≡ q → Loaded d p r old new → Loaded d q r old new
 loaded_as r d p q old new same l = subst (λ x. Loaded d x r old new) same l

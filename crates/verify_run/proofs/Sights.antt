@@ -4,7 +4,7 @@ use Rattle.std.proofs.lemmas.List.Elements.{filter-append}
 use Rattle.std.proofs.lemmas.Bool.{false_from_ne_true}
 use Rattle.std.specs.Prelude.{Option, Some, None, option_map, unwrap_or, bytes_eq, Result, Ok, Err, IfOk}
 use Rattle.std.specs.Cmp.Lexicographic.{same_text}
-use Rattle.std.specs.List.{flat_map, IsDistinct, AllByRecursion}
+use Rattle.std.specs.List.{filter, flat_map, IsDistinct, AllByRecursion}
 use Rattle.std.specs.FinMap.{get}
 use Rattle.bay_core.specs.declared.event.Event.{Event}
 use Rattle.bay_core.specs.declared.event.Event.TheVariants.{DriveList}
@@ -25,7 +25,7 @@ use Rattle.verify_run.specs.declared.verdict.VerifyError.{VerifyError}
 use Rattle.verify_run.specs.Report.{Found, verdict_line, entry_lines, verdict, unlisted}
 use Rattle.file_reading.specs.Reads.{AskedUpTo}
 use Rattle.verify_run.specs.Results.{bytes_read, Follows, entry_calls, Look, founds, looked, AllFollow, last_lines, Verified, VerifyStopped, limit_of, Ended}
-use Rattle.verify_run.specs.Seen.{is_read_of, reads_of, seen, found_by, ReadToEnd, Reports, Sees}
+use Rattle.verify_run.specs.Seen.{is_listing, ListedOnce, is_read_of, reads_of, seen, found_by, ReadToEnd, Reports, Sees}
 use Rattle.verify_run.proofs.Reported.{calls_said}
 
 reads_append : (q : List ℕ) (A B : List Event) → reads_of q (A ++ B) ≡ reads_of q A ++ reads_of q B
@@ -56,6 +56,28 @@ entry_else : (q : List ℕ) (d : ℕ) (folder : Sizes) (e : HashEntry) (calls : 
 entry_else q d folder e None f is = no_reads q (entry_lines e None)
 entry_else q d folder e (Some A) f is =
     reads_append q A (says (entry_lines e (Some (given A)))) ∙ (λ i. reads_else q d e.path 0 A is f.2 i ++ no_reads q (entry_lines e (Some (given A))) i)
+
+tiles_list_nothing : (d : ℕ) (path : List ℕ) (at : ℕ) (A : List Event) → Tiles d path at A → filter is_listing A ≡ []
+unfolding Tiles
+tiles_list_nothing d path at [] t = refl
+tiles_list_nothing d path at (e ∷ A) ((want, got, call), t) =
+    ap (λ b. cond b (e ∷ filter is_listing A) (filter is_listing A)) (ap is_listing call) ∙ tiles_list_nothing d path (at + length (piece e)) A t
+
+lines_list_nothing : (ts : List (List ℕ)) → filter is_listing (says ts) ≡ []
+lines_list_nothing [] = refl
+lines_list_nothing (t ∷ ts) = lines_list_nothing ts
+
+entry_lists_nothing : (d : ℕ) (folder : Sizes) (e : HashEntry) (calls : Option (List Event)) → Follows d folder e calls → filter is_listing (entry_calls e calls) ≡ []
+entry_lists_nothing d folder e None f = lines_list_nothing (entry_lines e None)
+entry_lists_nothing d folder e (Some A) f =
+    filter-append is_listing A (says (entry_lines e (Some (given A)))) ∙ (λ i. tiles_list_nothing d e.path 0 A f.2 i ++ lines_list_nothing (entry_lines e (Some (given A))) i)
+
+-- the entries are looked at without a listing
+looked_lists_nothing : (d : ℕ) (folder : Sizes) (looks : List Look) → AllFollow d folder looks → filter is_listing (looked looks) ≡ []
+unfolding AllFollow
+looked_lists_nothing d folder [] f = refl
+looked_lists_nothing d folder (k ∷ looks) f =
+    filter-append is_listing (entry_calls k.0 k.1) (looked looks) ∙ (λ i. entry_lists_nothing d folder k.0 k.1 f.0 i ++ looked_lists_nothing d folder looks f.1 i)
 
 turned : (p q : List ℕ) → bytes_eq p q ≡ false → bytes_eq q p ≡ false
 turned p q other = false_from_ne_true (bytes_eq q p) (λ equal. let e : q ≡ p = same_text q p (sym equal) in let f : true ≡ false = sym (bytes_eq-self p) ∙ ap (bytes_eq p) (sym e) ∙ other in cc)
@@ -170,8 +192,17 @@ module _ (d : ℕ) (es : List HashEntry) (own : List ℕ) (v : Verdict) (old new
   numbers_K : v ≡ verdict (found_by (seen K) es) (length (unlisted es (names x.files) own))
   numbers_K = x.numbers ∙ ap (λ fs. verdict fs (length (unlisted es (names x.files) own))) all
 
+  listed_once : ListedOnce d K
+  listed_once = record {
+    files = x.files;
+    rest = looked x.looks ++ says ts;
+    is = refl;
+    once = filter-append is_listing (looked x.looks) (says ts) ∙ (λ i. looked_lists_nothing d (listing x.files) x.looks x.follow i ++ lines_list_nothing ts i);
+  }
+
   pub seen_reports : Went (Here d) (Reports d es own v) old new
   seen_reports = went_such (λ L is. subst (Reports d es own v) (sym is) (record {
+    listed = listed_once;
     said = calls_said d es own v old new x
         ∙ (λ i. flat_map (λ (f : Found). entry_lines f.0 f.1) (all i) ++ last_lines (unlisted es (names x.files) own) (numbers_K i))
         ∙ sym (append_assoc (flat_map (λ (f : Found). entry_lines f.0 f.1) (found_by (seen K) es)) (map (λ q. unlisted_text (shown q)) (unlisted es (names x.files) own)) (verdict_line (verdict (found_by (seen K) es) (length (unlisted es (names x.files) own))) ∷ []));

@@ -1,5 +1,5 @@
 -- What the calls of a verification saw of a folder, and the report on it.
-use Rattle.std.specs.Prelude.{◌≡◌, ℕ, Bool, false, List, [], ◌∷◌, map, length, Option, Some, option_map, bytes_eq}
+use Rattle.std.specs.Prelude.{◌≡◌, ℕ, Bool, true, false, List, [], ◌∷◌, map, length, Option, Some, option_map, bytes_eq}
 use Rattle.std.specs.List.{filter, AllByRecursion}
 use Rattle.std.specs.FinMap.{get, keys}
 use Rattle.bay_core.specs.declared.event.Event.{Event}
@@ -18,6 +18,18 @@ use Rattle.verify_run.specs.Results.{limit_of, Ended}
 abbrev pub files_in : List Event → List FileInfo
 files_in (DriveList d (Some files) ∷ L) = files
 files_in _ = []
+
+-- a listing of a drive, whatever its answer
+abbrev pub is_listing : Event → Bool
+is_listing (DriveList d got) = true
+is_listing _ = false
+
+-- the calls begin with a listing of drive d that was answered, and no other listing is among them
+pub record ListedOnce (d : ℕ) (L : List Event) : Type 0 where
+  pub files : List FileInfo
+  pub rest : List Event
+  pub is : L ≡ DriveList d (Some files) ∷ rest
+  pub once : filter is_listing rest ≡ []
 
 -- a read of this path
 abbrev pub is_read_of : List ℕ → Event → Bool
@@ -40,8 +52,10 @@ found_by sees entries = map (λ e. (e, sees e.path)) entries
 abbrev pub ReadToEnd : List Event → List ℕ → Type 0
 ReadToEnd L q = (size : ℕ) → get (listing (files_in L)) q ≡ Some size → AskedUpTo (limit_of size) (reads_of q L) × Ended (limit_of size) (reads_of q L)
 
--- the lines said and the numbers are those of what was seen, where the reads of each path tile it from its start
+-- the drive was listed once, at first; the lines said and the numbers are those of what was seen, where the reads of each path tile it
+-- from its start
 pub record Reports (d : ℕ) (entries : List HashEntry) (own : List ℕ) (v : Verdict) (L : List Event) : Type 0 where
+  pub listed : ListedOnce d L
   pub said : said L ≡ lines (found_by (seen L) entries) (unlisted entries (names (files_in L)) own)
   pub numbers : v ≡ verdict (found_by (seen L) entries) (length (unlisted entries (names (files_in L)) own))
   pub tile : (q : List ℕ) → Tiles d q 0 (reads_of q L)
