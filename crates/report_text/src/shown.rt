@@ -26,7 +26,8 @@ fn cut(name: &str) -> &str
 }
 
 /// A name that a device gave, as a line shows it: its first 1,024 bytes at most, ended at a whole character, with `?`
-/// for each character that a path may not hold. A valid path is shown as it is.
+/// for each character that a path may not hold. That a valid path, which has no more bytes and no such character, is
+/// shown as it is, is not said by a clause of its own.
 #[derive(Debug, Drop)]
 pub struct ShownName {
     text: String,
