@@ -1,18 +1,15 @@
--- Sealing in place is safe.
-use Rattle.std.proofs.Common.{◌≡◌, ◌⊎◌, inl, inr, ℕ, suc, true, false, List, Some, IsTrue, refl, sym, ap, ◌∙◌, subst}
-use Rattle.std.proofs.lemmas.Bool.{false≢true}
+-- What the changes of sealing in place make of a map.
+use Rattle.std.proofs.Common.{◌≡◌, inl, inr, ℕ, List, Some, IsTrue, refl, sym, ◌∙◌, subst}
 use Rattle.bay_core.specs.declared.event.Event.{Event}
 use Rattle.bay_core.specs.declared.event.Event.TheVariants.{AttachSource, AttachDrive, AttachFailed, SourceList, SourceRead, DriveList, DriveRead, Write, Sync, Rename, Remove, Moment, Pick, Say}
 use Rattle.std.specs.FinMap.{get}
-use Rattle.bay_core.specs.Map.{Map, moved}
+use Rattle.bay_core.specs.Map.{Map}
 use Rattle.bay_core.specs.Torn.{Torn}
-use Rattle.bay_core.specs.Replay.{changed}
 use Rattle.crash_law.specs.Protocol.{failed}
 use Rattle.bay_core.specs.Looks.{is_change}
-use Rattle.crash_law.specs.Protocol.{IsSafe, is_done}
-use Rattle.bay_core.proofs.Changes.{Renamed, moved_renamed, torn_renamed, torn_other}
+use Rattle.bay_core.proofs.Changes.{Renamed, torn_other}
 use Rattle.bay_core.specs.Paths.{IsScratch, new_path}
-use Rattle.offload_law.specs.InPlace.{Seal, Open, Shut, steps, IsSeal, IsWholeOrAbsent, SealPrepares, SealCommits, shuts, seal_in_place}
+use Rattle.offload_law.specs.InPlace.{Seal, Open, Shut, steps, IsSeal, IsWholeOrAbsent, SealPrepares, SealCommits, shuts}
 
 module _ (list : List ℕ) (not_scratch : IsScratch list → ⊥) (Whole : List ℕ → Type 0) (base : Map) where
   scratch_keeps : (s : Seal) (m new : Map) → IsSeal list Whole base s m → ((q : List ℕ) → (IsScratch q → ⊥) → get new q ≡ get m q) → IsSeal list Whole base s new
@@ -22,7 +19,7 @@ module _ (list : List ℕ) (not_scratch : IsScratch list → ⊥) (Whole : List 
     elsewhere = λ q a b. e q a ∙ h.elsewhere q a b;
   }
 
-  prepared : (s : Seal) (e : Event) (m new : Map) → SealPrepares s e → IsSeal list Whole base s m → Torn e m new → IsSeal list Whole base s new
+  pub prepared : (s : Seal) (e : Event) (m new : Map) → SealPrepares s e → IsSeal list Whole base s m → Torn e m new → IsSeal list Whole base s new
   prepared s (Write d path at piece ok) m new free h torn = scratch_keeps s m new h (λ q f. torn_other (Write d path at piece ok) m new torn q (λ e. f (subst IsScratch (sym e) free)))
   prepared s (Remove d path ok) m new free h torn = scratch_keeps s m new h (λ q f. torn_other (Remove d path ok) m new torn q (λ e. f (subst IsScratch (sym e) free)))
   prepared s (Rename d from to ok) m new free h torn = absurd free
@@ -38,24 +35,14 @@ module _ (list : List ℕ) (not_scratch : IsScratch list → ⊥) (Whole : List 
   prepared s (Pick n) m new free h torn = absurd free
   prepared s (Say line ok) m new free h torn = absurd free
 
-  shut : (m new : Map) → Renamed m new new_path list → (text : List ℕ) → get m new_path ≡ Some text → Whole text → IsSeal list Whole base Open m → IsSeal list Whole base (Shut text) new
+  pub shut : (m new : Map) → Renamed m new new_path list → (text : List ℕ) → get m new_path ≡ Some text → Whole text → IsSeal list Whole base Open m → IsSeal list Whole base (Shut text) new
   shut m new to text is whole h = record {
     at_list = to.here text is;
     whole = whole;
     elsewhere = λ q a b. to.other q (λ e. a (inl e)) b ∙ h.elsewhere q a b;
   }
 
-  committed : {m new : Map} {s t : Seal} {e : Event} → SealCommits list Whole m s e t → IsSeal list Whole base s m → Torn e m new → IsSeal list Whole base s new ⊎ IsSeal list Whole base t new
-  committed {m = m} {new = new} (shuts {d = d} {ok = ok} {text = text} is whole) h torn = elim (torn_renamed d ok m new new_path list torn) [
-    | inl same ↦ inl (subst (IsSeal list Whole base Open) (sym same) h)
-    | inr to ↦ inr (shut m new to text is whole h)
-  ]
-
-  done : {m : Map} {s t : Seal} {e : Event} → SealCommits list Whole m s e t → is_done e ≡ true → IsSeal list Whole base s m → IsSeal list Whole base t (changed m e)
-  done {m = m} (shuts {ok = true} {text = text} is whole) t h = shut m (moved m new_path list) (moved_renamed m new_path list) text is whole h
-  done (shuts {ok = false} is whole) t h = absurd (false≢true t)
-
-  prepares_failed : (s : Seal) (e : Event) → SealPrepares s e → SealPrepares s (failed e)
+  pub prepares_failed : (s : Seal) (e : Event) → SealPrepares s e → SealPrepares s (failed e)
   prepares_failed s (Write d path at piece ok) h = h
   prepares_failed s (Remove d path ok) h = h
   prepares_failed s (Rename d from to ok) h = absurd h
@@ -71,7 +58,7 @@ module _ (list : List ℕ) (not_scratch : IsScratch list → ⊥) (Whole : List 
   prepares_failed s (Pick n) h = absurd h
   prepares_failed s (Say line ok) h = absurd h
 
-  prepares_change : (s : Seal) (e : Event) → SealPrepares s e → IsTrue (is_change e)
+  pub prepares_change : (s : Seal) (e : Event) → SealPrepares s e → IsTrue (is_change e)
   prepares_change s (Write d path at piece ok) h = refl
   prepares_change s (Remove d path ok) h = refl
   prepares_change s (Rename d from to ok) h = absurd h
@@ -87,29 +74,17 @@ module _ (list : List ℕ) (not_scratch : IsScratch list → ⊥) (Whole : List 
   prepares_change s (Pick n) h = absurd h
   prepares_change s (Say line ok) h = absurd h
 
-  commits_failed : {m : Map} {s t : Seal} {e : Event} → SealCommits list Whole m s e t → SealCommits list Whole m s (failed e) t
+  pub commits_failed : {m : Map} {s t : Seal} {e : Event} → SealCommits list Whole m s e t → SealCommits list Whole m s (failed e) t
   commits_failed (shuts is whole) = shuts is whole
 
-  rises : {m : Map} {s t : Seal} {e : Event} → SealCommits list Whole m s e t → steps t ≡ 1
+  pub rises : {m : Map} {s t : Seal} {e : Event} → SealCommits list Whole m s e t → steps t ≡ 1
   rises (shuts is whole) = refl
 
-  starts : {m : Map} {s t : Seal} {e : Event} → SealCommits list Whole m s e t → steps s ≡ 0
+  pub starts : {m : Map} {s t : Seal} {e : Event} → SealCommits list Whole m s e t → steps s ≡ 0
   starts (shuts is whole) = refl
 
-  commits_change : {m : Map} {s t : Seal} {e : Event} → SealCommits list Whole m s e t → IsTrue (is_change e)
+  pub commits_change : {m : Map} {s t : Seal} {e : Event} → SealCommits list Whole m s e t → IsTrue (is_change e)
   commits_change (shuts is whole) = refl
-
-  pub safe : (announces : List ℕ → ℕ) → IsSafe (seal_in_place list Whole announces base)
-  safe announces = record {
-    prepared = prepared;
-    committed = λ s t e m new c h torn. committed c h torn;
-    done = λ s t e m c h is. done c is h;
-    rises = λ s t e m c. rises c ∙ ap suc (sym (starts c));
-    prepares_failed = prepares_failed;
-    commits_failed = λ s t e m c. commits_failed c;
-    prepares_change = prepares_change;
-    commits_change = λ s t e m c. commits_change c;
-  }
 
   -- at each stage the list is whole or absent
   pub whole_or_absent : (s : Seal) (m : Map) → IsSeal list Whole base s m → IsWholeOrAbsent list Whole base m

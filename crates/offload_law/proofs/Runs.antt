@@ -1,10 +1,10 @@
 -- Runs one after another.
-use Rattle.std.proofs.Common.{◌≡◌, inl, inr, ℕ, zero, suc, ◌≤◌, List, [], ◌∷◌, None, refl, sym, ◌∙◌, subst, arith}
+use Rattle.std.proofs.Common.{◌≡◌, ℕ, zero, suc, ◌≤◌, List, [], ◌∷◌, None, refl, sym, ◌∙◌, subst, arith}
 use Rattle.std.specs.FinMap.{get}
 use Rattle.bay_core.specs.declared.event.Event.{Event}
 use Rattle.bay_core.specs.declared.event.Event.TheVariants.{AttachSource, AttachDrive, AttachFailed, SourceList, SourceRead, DriveList, DriveRead, Write, Sync, Rename, Remove, Moment, Pick, Say}
 use Rattle.bay_core.specs.Map.{Map, Dates}
-use Rattle.bay_core.specs.Paths.{IsScratch, journal_path}
+use Rattle.bay_core.specs.Paths.{journal_path}
 use Rattle.crash_law.specs.Protocol.{Protocol, told_after, Announced}
 use Rattle.copy_plan.specs.Plan.{PlanValue, IsPlan}
 use Rattle.offload_law.specs.Stages.{Offload, Stage, Fresh, Begun, Sealed, IsAt, IsAfter, IsAfterOn, StandsAfter, HoldsPlan, IsOfCard, IsOurs, KeepsRest, progress}
@@ -55,15 +55,6 @@ module _ (card : Map) (dates : Dates) where
       fresh (Begun recs) at is = absurd (omega (arith, is))
       fresh (Sealed recs finish) at is = absurd (omega (arith, is))
   after_on p of plan m (suc steps) after = (p, plan, of, after)
-
-  -- after no step nothing but the scratch paths may have changed
-  untouched_yet : (p : PlanValue) (m base : Map) → KeepsRest p m base 0 → (q : List ℕ) → (IsScratch q → ⊥) → get m q ≡ get base q
-  untouched_yet p m base rest q other =
-      rest.same q (λ t. elim t [ inl scratch ↦ other scratch | inr (inl some) ↦ omega (arith, some.0) | inr (inr (inl begun)) ↦ omega (arith, begun.early) | inr (inr (inr sealed)) ↦ omega (arith, sealed.0) ])
-
-  pub stands_on : (p : PlanValue) → IsOfCard card dates p → IsPlan p → (m base : Map) (steps : ℕ) → IsAfter (record { plan = p; card = card }) m steps → KeepsRest p m base steps → StandsAfter (λ q. q ≡ p) card dates base m steps
-  stands_on p of plan m base zero after rest = (after_on p of plan m zero after, untouched_yet p m base rest)
-  stands_on p of plan m base (suc steps) after rest = (p, refl, plan, of, after, rest)
 
   -- a drive stands after its own steps, by the plan of its journal
   pub stands_still : (m : Map) (steps : ℕ) → IsAfterOn card dates m steps → StandsAfter (HoldsPlan m) card dates m m steps
