@@ -1,5 +1,5 @@
 -- Lines that were said, and drives that were called sealed.
-use Rattle.std.proofs.Common.{◌≡◌, ◌⊎◌, inl, inr, ℕ, zero, suc, ◌≤◌, max, Bool, List, [], ◌∷◌, ◌++◌, length, refl, sym, ◌∙◌, subst, arith}
+use Rattle.std.proofs.Common.{◌≡◌, ◌≢◌, ◌⊎◌, inl, inr, ℕ, zero, suc, ◌≤◌, max, Bool, List, [], ◌∷◌, ◌++◌, length, refl, sym, ◌∙◌, subst, arith}
 use Rattle.std.proofs.lemmas.List.Elements.{Contains-append_left}
 use Rattle.std.proofs.lemmas.Bool.{cases_eq}
 use Rattle.bay_core.specs.declared.event.Event.{Event}
@@ -9,12 +9,12 @@ use Rattle.bay_core.specs.Left.{Left}
 use Rattle.crash_law.specs.Protocol.{Protocol, State, IsIn, told_after, Announced}
 use Rattle.copy_plan.specs.Plan.{IsPlan}
 use Rattle.offload_law.specs.Clear.{IsSaid, IsTold, IsCalledSealed}
-use Rattle.offload_law.specs.Lines.{sealed_text, announces}
+use Rattle.offload_law.specs.Lines.{sealed_text, Announces, announces}
 use Rattle.offload_law.specs.Stages.{Offload, Stage, IsAt, IsAfter, IsAfterOn, IsOfCard, all_steps, progress}
 use Rattle.offload_law.specs.Steps.{offload}
 use Rattle.offload_law.proofs.Counted.{one_file_each}
 use Rattle.offload_law.proofs.Runs.{told_more, after_on}
-use Rattle.offload_law.proofs.Said.{sealed_announces, announces_that, announces_only}
+use Rattle.offload_law.proofs.Said.{sealed_announces}
 use Rattle.offload_law.proofs.Safe.{sealed_for_good}
 
 -- a line that was said announces its steps
@@ -47,10 +47,12 @@ announced_by P (e ∷ L) told = elim (announced_by P L (told_after P e told)) [
   ]
 ]
 
-module _ (o : Offload) (start : Map) (d told : ℕ) (L : List Event) where
+-- where the number of steps of a line is the one that it announces
+module _ (o : Offload) (start : Map) (d told : ℕ) (L : List Event) (each : (line : List ℕ) (steps : ℕ) → Announces d (length o.plan.files) line steps → announces d (length o.plan.files) line ≡ steps)
+    (only : (line : List ℕ) → announces d (length o.plan.files) line ≢ 0 → Announces d (length o.plan.files) line (announces d (length o.plan.files) line)) where
   pub told_least : (steps : ℕ) → IsTold d (length o.plan.files) L steps → steps ≤ Announced (offload d o start) told L
   told_least steps (line, said, says) =
-      let is = announces_that d (length o.plan.files) line steps says in
+      let is = each line steps says in
       let least = said_announces (offload d o start) line L told said in
       omega (arith, is, least)
 
@@ -59,7 +61,7 @@ module _ (o : Offload) (start : Map) (d told : ℕ) (L : List Event) where
     | inl same ↦ inl same
     | inr some ↦ elim (cases_eq (announces d (length o.plan.files) some.0) 0) [
       | inl none ↦ let least = told_more (offload d o start) L told in inl (omega (arith, some.2, none, least))
-      | inr says ↦ inr (subst (IsTold d (length o.plan.files) L) (sym some.2) (some.0, some.1, announces_only d (length o.plan.files) some.0 says))
+      | inr says ↦ inr (subst (IsTold d (length o.plan.files) L) (sym some.2) (some.0, some.1, only some.0 says))
     ]
   ]
 

@@ -4,13 +4,13 @@ use Rattle.std.specs.Prelude.{codes, decimal}
 use Rattle.std.specs.Str.{bytes_eq}
 use Rattle.std.specs.Str.Parse.{digits_value}
 use Rattle.std.specs.List.{before_first, after_first}
-use Rattle.std.proofs.lemmas.Bool.{cond_both, cond-true, cond-false}
+use Rattle.std.proofs.lemmas.Bool.{cond-true, cond-false}
 use Rattle.std.proofs.lemmas.Fmt.{decimal_injective}
 use Rattle.std.proofs.lemmas.List.{append_cancel_left}
 use Rattle.std.proofs.lemmas.Slice.Eq.{bytes_eq-Decides}
 use Rattle.offload_law.specs.Clear.{clear_text}
-use Rattle.offload_law.specs.Lines.{begun_text, done_text, sealed_text, IsShort, Announces, begun, done, sealed, is_space, behind, number_behind, announces}
-use Rattle.offload_law.proofs.Fields.{decimal_no_space, value_decimal, short_by_digits, field_before, last_field, field_after}
+use Rattle.offload_law.specs.Lines.{begun_text, done_text, sealed_text, IsShort, is_space, behind, number_behind, announces}
+use Rattle.offload_law.proofs.Fields.{decimal_no_space, value_decimal, field_before, last_field, field_after}
 
 -- a line of a drive, field by field
 abbrev of_drive : List ℕ → ℕ → List ℕ → List ℕ
@@ -36,27 +36,27 @@ module _ (line : List ℕ) (d : ℕ) where
   behind_drive : (word rest : List ℕ) → after_first is_space (of_drive word d rest) ≡ decimal d ++ 32 ∷ rest → line ≡ of_drive word d rest → two rest
   behind_drive word rest first is = ap (after_first is_space) (ap (after_first is_space) is ∙ first) ∙ field_after (decimal d) rest (decimal_no_space d)
 
-  behind_begun : (k m : ℕ) → line ≡ begun_text d k m → two (decimal k ++ 32 ∷ decimal m)
+  pub behind_begun : (k m : ℕ) → line ≡ begun_text d k m → two (decimal k ++ 32 ∷ decimal m)
   behind_begun k m is = behind_drive (codes "begun") (decimal k ++ 32 ∷ decimal m) refl (is ∙ begun_is d k m)
 
-  behind_done : (k m : ℕ) (path : List ℕ) → line ≡ done_text d k m path → two (decimal k ++ 32 ∷ (decimal m ++ 32 ∷ path))
+  pub behind_done : (k m : ℕ) (path : List ℕ) → line ≡ done_text d k m path → two (decimal k ++ 32 ∷ (decimal m ++ 32 ∷ path))
   behind_done k m path is = behind_drive (codes "done") (decimal k ++ 32 ∷ (decimal m ++ 32 ∷ path)) refl (is ∙ done_is d k m path)
 
-  behind_sealed : (m : ℕ) (list : List ℕ) → line ≡ sealed_text d m list → two (decimal m ++ 32 ∷ list)
+  pub behind_sealed : (m : ℕ) (list : List ℕ) → line ≡ sealed_text d m list → two (decimal m ++ 32 ∷ list)
   behind_sealed m list is = behind_drive (codes "sealed") (decimal m ++ 32 ∷ list) refl (is ∙ sealed_is d m list)
 
   -- the number there, and what stands behind it
-  first_number : (k : ℕ) (rest : List ℕ) → two (decimal k ++ 32 ∷ rest) → number_behind 2 line ≡ digits_value 10 (decimal k)
+  pub first_number : (k : ℕ) (rest : List ℕ) → two (decimal k ++ 32 ∷ rest) → number_behind 2 line ≡ digits_value 10 (decimal k)
   first_number k rest is = ap (λ (l : List ℕ). digits_value 10 (before_first is_space l)) is ∙ ap (digits_value 10) (field_before (decimal k) rest (decimal_no_space k))
 
   three : (k : ℕ) (rest : List ℕ) → two (decimal k ++ 32 ∷ rest) → behind 3 line ≡ rest
   three k rest is = ap (after_first is_space) is ∙ field_after (decimal k) rest (decimal_no_space k)
 
   -- the second one
-  second_number : (k m : ℕ) (rest : List ℕ) → two (decimal k ++ 32 ∷ (decimal m ++ 32 ∷ rest)) → number_behind 3 line ≡ digits_value 10 (decimal m)
+  pub second_number : (k m : ℕ) (rest : List ℕ) → two (decimal k ++ 32 ∷ (decimal m ++ 32 ∷ rest)) → number_behind 3 line ≡ digits_value 10 (decimal m)
   second_number k m rest is = ap (λ (l : List ℕ). digits_value 10 (before_first is_space l)) (three k (decimal m ++ 32 ∷ rest) is) ∙ ap (digits_value 10) (field_before (decimal m) rest (decimal_no_space m))
 
-  last_number : (k m : ℕ) → two (decimal k ++ 32 ∷ decimal m) → number_behind 3 line ≡ digits_value 10 (decimal m)
+  pub last_number : (k m : ℕ) → two (decimal k ++ 32 ∷ decimal m) → number_behind 3 line ≡ digits_value 10 (decimal m)
   last_number k m is = ap (λ (l : List ℕ). digits_value 10 (before_first is_space l)) (three k (decimal m) is) ∙ ap (digits_value 10) (last_field (decimal m) (decimal_no_space m))
 
   four : (k m : ℕ) (rest : List ℕ) → two (decimal k ++ 32 ∷ (decimal m ++ 32 ∷ rest)) → behind 4 line ≡ rest
@@ -86,20 +86,20 @@ done_not_sealed : (d k n : ℕ) (path : List ℕ) (e m : ℕ) (list : List ℕ) 
 done_not_sealed d k n path e m list is = let bytes : 100 ≡ 115 = ap first is in omega (arith, bytes)
 
 -- the forms with which a line is compared
-abbrev as_begun : ℕ → List ℕ → List ℕ
+abbrev pub as_begun : ℕ → List ℕ → List ℕ
 as_begun d line = begun_text d (number_behind 2 line) (number_behind 3 line)
 
-abbrev as_done : ℕ → List ℕ → List ℕ
+abbrev pub as_done : ℕ → List ℕ → List ℕ
 as_done d line = done_text d (number_behind 2 line) (number_behind 3 line) (behind 4 line)
 
-abbrev as_sealed : ℕ → List ℕ → List ℕ
+abbrev pub as_sealed : ℕ → List ℕ → List ℕ
 as_sealed d line = sealed_text d (number_behind 2 line) (behind 3 line)
 
 -- one more than the records that it names, or all
-abbrev from_sealed : ℕ → ℕ → List ℕ → ℕ
+abbrev pub from_sealed : ℕ → ℕ → List ℕ → ℕ
 from_sealed d n line = cond (bytes_eq line (as_sealed d line)) (suc (suc n)) 0
 
-abbrev from_done : ℕ → ℕ → List ℕ → ℕ
+abbrev pub from_done : ℕ → ℕ → List ℕ → ℕ
 from_done d n line = cond (bytes_eq line (as_done d line)) (suc (number_behind 2 line)) (from_sealed d n line)
 
 module _ (d n : ℕ) (line : List ℕ) where
@@ -148,35 +148,6 @@ module _ (d n : ℕ) (line : List ℕ) where
       cond-false (bytes_eq line (as_begun d line)) (suc (number_behind 2 line)) (from_done d n line) b
       ∙ cond-false (bytes_eq line (as_done d line)) (suc (number_behind 2 line)) (from_sealed d n line) e
       ∙ cond-false (bytes_eq line (as_sealed d line)) (suc (suc n)) 0 s
-
-  -- the number of steps is the one that the line announces
-  pub announces_that : (steps : ℕ) → Announces d n line steps → announces d n line ≡ steps
-  announces_that steps (begun k m low also_low is) = begun_announces k m low also_low is
-  announces_that steps (done k m path low also_low is) = done_announces k m path low also_low is
-  announces_that steps (sealed m list low is) = sealed_announces m list low is
-
-  -- a line with a number of steps is one that announces it
-  pub announces_only : announces d n line ≢ 0 → Announces d n line (announces d n line)
-  unfolding announces
-  announces_only =
-      let k = number_behind 2 line in
-      let m = number_behind 3 line in
-      cond_both (bytes_eq line (as_begun d line)) (suc k) (from_done d n line) (λ (steps : ℕ). steps ≢ 0 → Announces d n line steps)
-      (λ same none.
-      let is : line ≡ begun_text d k m = (bytes_eq-Decides line (as_begun d line)).0 same in
-      let at = behind_begun line d k m is in
-      begun k m (short_by_digits k (first_number line d k (decimal m) at)) (short_by_digits m (last_number line d k m at)) is)
-      (λ no_begun. cond_both (bytes_eq line (as_done d line)) (suc k) (from_sealed d n line) (λ (steps : ℕ). steps ≢ 0 → Announces d n line steps)
-      (λ same none.
-      let is : line ≡ done_text d k m (behind 4 line) = (bytes_eq-Decides line (as_done d line)).0 same in
-      let at = behind_done line d k m (behind 4 line) is in
-      done k m (behind 4 line) (short_by_digits k (first_number line d k (decimal m ++ 32 ∷ behind 4 line) at)) (short_by_digits m (second_number line d k m (behind 4 line) at)) is)
-      (λ no_done. cond_both (bytes_eq line (as_sealed d line)) (suc (suc n)) 0 (λ (steps : ℕ). steps ≢ 0 → Announces d n line steps)
-      (λ same none.
-      let is : line ≡ sealed_text d k (behind 3 line) = (bytes_eq-Decides line (as_sealed d line)).0 same in
-      let at = behind_sealed line d k (behind 3 line) is in
-      sealed k (behind 3 line) (short_by_digits k (first_number line d k (behind 3 line) at)) is)
-      (λ no_sealed none. absurd (none refl))))
 
   -- nor does a line with another first word
   pub other_word : take 6 line ≢ codes "begun " → take 5 line ≢ codes "done " → take 7 line ≢ codes "sealed " → announces d n line ≡ 0

@@ -66,7 +66,9 @@ pub fn greatest_told()
         × ((steps : ℕ) → IsTold d (length o.plan.files) L steps → steps ≤ Announced (offload d o start) told L) }
     ensures one { (o : Offload) (start : Map) (d told : ℕ) (L : List Event) →
         (Announced (offload d o start) told L ≡ told) ⊎ IsTold d (length o.plan.files) L (Announced (offload d o start) told L) }
-{}
+{
+    announced_steps();
+}
 
 /// Calls on other devices, with lines that announce nothing for the drive, leave the drive as it was, and what is
 /// announced for it.

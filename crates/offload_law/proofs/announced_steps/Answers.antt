@@ -1,8 +1,43 @@
-use Rattle.std.proofs.Common.{refl}
-use Rattle.offload_law.specs.Lines.{begun_text, done_text, sealed_text}
-use Rattle.offload_law.proofs.Said.{begun_announces, done_announces, sealed_announces, announces_that, announces_only, other_word, clear_none, begun_elsewhere, done_elsewhere, sealed_elsewhere}
+use Rattle.std.proofs.Common.{◌≡◌, ◌≢◌, ℕ, suc, ◌++◌, List, ◌∷◌, refl}
+use Rattle.std.specs.Prelude.{decimal}
+use Rattle.std.specs.Str.{bytes_eq}
+use Rattle.std.proofs.lemmas.Bool.{cond_both}
+use Rattle.std.proofs.lemmas.Slice.Eq.{bytes_eq-Decides}
+use Rattle.offload_law.specs.Lines.{begun_text, done_text, sealed_text, Announces, begun, done, sealed, behind, number_behind, announces}
+use Rattle.offload_law.proofs.Fields.{short_by_digits}
 use Rattle.offload_law.proofs.Plans.{files_short}
+use Rattle.offload_law.proofs.Said.{behind_begun, behind_done, behind_sealed, first_number, second_number, last_number, as_begun, as_done, as_sealed, from_sealed, from_done, begun_announces, done_announces, sealed_announces, other_word, clear_none, begun_elsewhere, done_elsewhere, sealed_elsewhere}
 use Rattle.offload_law.proofs.announced_steps.Goals as goal
+
+module _ (d n : ℕ) (line : List ℕ) where
+  -- the number of steps is the one that the line announces
+  announces_that : (steps : ℕ) → Announces d n line steps → announces d n line ≡ steps
+  announces_that steps (begun k m low also_low is) = begun_announces d n line k m low also_low is
+  announces_that steps (done k m path low also_low is) = done_announces d n line k m path low also_low is
+  announces_that steps (sealed m list low is) = sealed_announces d n line m list low is
+
+  -- a line with a number of steps is one that announces it
+  announces_only : announces d n line ≢ 0 → Announces d n line (announces d n line)
+  unfolding announces
+  announces_only =
+      let k = number_behind 2 line in
+      let m = number_behind 3 line in
+      cond_both (bytes_eq line (as_begun d line)) (suc k) (from_done d n line) (λ (steps : ℕ). steps ≢ 0 → Announces d n line steps)
+      (λ same none.
+      let is : line ≡ begun_text d k m = (bytes_eq-Decides line (as_begun d line)).0 same in
+      let at = behind_begun line d k m is in
+      begun k m (short_by_digits k (first_number line d k (decimal m) at)) (short_by_digits m (last_number line d k m at)) is)
+      (λ no_begun. cond_both (bytes_eq line (as_done d line)) (suc k) (from_sealed d n line) (λ (steps : ℕ). steps ≢ 0 → Announces d n line steps)
+      (λ same none.
+      let is : line ≡ done_text d k m (behind 4 line) = (bytes_eq-Decides line (as_done d line)).0 same in
+      let at = behind_done line d k m (behind 4 line) is in
+      done k m (behind 4 line) (short_by_digits k (first_number line d k (decimal m ++ 32 ∷ behind 4 line) at)) (short_by_digits m (second_number line d k m (behind 4 line) at)) is)
+      (λ no_done. cond_both (bytes_eq line (as_sealed d line)) (suc (suc n)) 0 (λ (steps : ℕ). steps ≢ 0 → Announces d n line steps)
+      (λ same none.
+      let is : line ≡ sealed_text d k (behind 3 line) = (bytes_eq-Decides line (as_sealed d line)).0 same in
+      let at = behind_sealed line d k (behind 3 line) is in
+      sealed k (behind 3 line) (short_by_digits k (first_number line d k (behind 3 line) at)) is)
+      (λ no_sealed none. absurd (none refl))))
 
 pub returns-clause-begun : goal.returns-clause-begun
 returns-clause-begun c = λ d n k m low also_low. begun_announces d n (begun_text d k m) k m low also_low refl
