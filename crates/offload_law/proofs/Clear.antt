@@ -2,13 +2,18 @@
 use Rattle.std.proofs.Common.{◌≡◌, ◌≢◌, ◌⊎◌, inl, inr, ℕ, zero, suc, ◌≤◌, max, Bool, List, [], ◌∷◌, ◌++◌, length, refl, sym, ◌∙◌, subst, arith}
 use Rattle.std.proofs.lemmas.List.Elements.{Contains-append_left}
 use Rattle.std.proofs.lemmas.Bool.{cases_eq}
+use Rattle.std.specs.Prelude.{nat_eq}
+use Rattle.std.specs.Cmp.{both_ways, nat_eq_equiv}
+use Rattle.std.specs.Set.{is_member}
+use Rattle.std.proofs.lemmas.Bool.Decides.{Decides-eqb}
+use Rattle.std.proofs.lemmas.Map.Made.{length-from_same_keys, is_member-Decides}
 use Rattle.bay_core.specs.declared.event.Event.{Event}
 use Rattle.bay_core.specs.declared.event.Event.TheVariants.{Say}
 use Rattle.bay_core.specs.Map.{Map, Dates}
 use Rattle.bay_core.specs.Left.{Left}
 use Rattle.crash_law.specs.Protocol.{Protocol, State, IsIn, told_after, Announced}
 use Rattle.copy_plan.specs.Plan.{IsPlan}
-use Rattle.offload_law.specs.Clear.{IsSaid, IsTold, IsCalledSealed}
+use Rattle.offload_law.specs.Clear.{IsSaid, IsTold, IsCalledSealed, AreCalledSealed}
 use Rattle.offload_law.specs.Lines.{sealed_text, Announces, announces}
 use Rattle.offload_law.specs.Stages.{Offload, Stage, IsAt, IsAfter, IsAfterOn, IsOfCard, all_steps, progress}
 use Rattle.offload_law.specs.Steps.{offload}
@@ -79,3 +84,12 @@ called_sealed o plan start s at d before since more end is_in (m, list, short, (
 pub all_on_card : (o : Offload) → IsPlan o.plan → (dates : Dates) → IsOfCard o.card dates o.plan → (I : Map) → IsAfter o I (suc (suc (length o.plan.files))) → IsAfterOn o.card dates I (all_steps o.card)
 all_on_card o plan dates of I after =
     subst (λ (n : ℕ). IsAfterOn o.card dates I (suc (suc n))) (one_file_each o.card dates o.plan plan of) (after_on o.card dates o.plan of plan I (suc (suc (length o.plan.files))) after)
+
+-- two lists of the drives that were called sealed have one length
+pub one_count : (drives others : List ℕ) (L : List Event) → AreCalledSealed drives L → AreCalledSealed others L → length drives ≡ length others
+one_count drives others L are too =
+    length-from_same_keys nat_eq_equiv drives others are.once too.once
+    (λ q.
+    let here = is_member-Decides Decides-eqb drives q in
+    let there = is_member-Decides Decides-eqb others q in
+    both_ways (is_member nat_eq drives q) (is_member nat_eq others q) (λ t. there.1 ((too.each q).1 ((are.each q).0 (here.0 t)))) (λ t. here.1 ((are.each q).1 ((too.each q).0 (there.0 t)))))

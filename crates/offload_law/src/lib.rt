@@ -58,6 +58,7 @@ pub fn called_sealed()
         (drives : List ℕ) (before : List Event) → AreCalledSealed drives before → (d : ℕ) → Contains drives d →
         (since more : List Event) (end : State (offload d o start)) → IsIn (offload d o start) d start s ((before ++ since) ++ more) end →
         (I : Map) → Left start (before ++ since) d I → IsAfterOn o.card dates I (all_steps o.card) }
+    ensures one_count { (drives others : List ℕ) (L : List Event) → AreCalledSealed drives L → AreCalledSealed others L → length drives ≡ length others }
 {}
 
 /// The announced steps of an offload are the greatest number of those that its drive had and those that a line announces.
