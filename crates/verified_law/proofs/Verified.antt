@@ -31,9 +31,9 @@ use Rattle.verify_run.specs.declared.verdict.Standing.{Standing}
 use Rattle.verify_run.specs.declared.verdict.Standing.TheVariants.{Good}
 use Rattle.verify_run.specs.declared.verdict.Verdict.{Verdict}
 use Rattle.verify_run.specs.declared.verdict.Outcome.TheVariants.{AllGood}
-use Rattle.verify_run.specs.Report.{size_lines, digest_lines, altered_lines, standing_by, standing, standings, is_absent, is_altered, is_uncheckable, found_in, report_verdict, outcome_of}
+use Rattle.verify_run.specs.Report.{size_lines, digest_lines, altered_lines, standing_by, standing, standings, found_in, report_verdict, outcome_of}
 use Rattle.verified_law.specs.Good.{IsGood}
-use Rattle.verified_law.proofs.Sealed.{some_shown, length-sealed_entries, sealed_canonical}
+use Rattle.verified_law.proofs.Sealed.{some_shown, sealed_canonical}
 
 -- ---- after all its steps a drive is sealed
 
@@ -83,7 +83,7 @@ good_entry kinds bytes f r some size digests =
 abbrev AreGood : List Standing → Type 0
 AreGood all = AllByRecursion (λ (s : Standing). s ≡ Good) all
 
-good_entries : (kinds : Kinds) (card m : Map) (j : ℕ) (files : List PlannedFile) (recs : List Rec) → has_kind kinds ≡ true → AreRecords j files recs → AreRecorded card m j files recs → AreGood (standings (found_in m (sealed_entries kinds files recs)))
+pub good_entries : (kinds : Kinds) (card m : Map) (j : ℕ) (files : List PlannedFile) (recs : List Rec) → has_kind kinds ≡ true → AreRecords j files recs → AreRecorded card m j files recs → AreGood (standings (found_in m (sealed_entries kinds files recs)))
 unfolding AreRecords AreRecorded sealed_entries
 good_entries kinds card m j [] [] some are recorded = tt
 good_entries kinds card m j [] (r ∷ recs) some are recorded = tt
@@ -96,46 +96,28 @@ good_entries kinds card m j (f ∷ files) (r ∷ recs) some are recorded =
 
 -- ---- the report
 
-count_none : (test : Standing → Bool) (all : List Standing) → test Good ≡ false → AreGood all → count_by test all ≡ 0
+pub count_none : (test : Standing → Bool) (all : List Standing) → test Good ≡ false → AreGood all → count_by test all ≡ 0
 count_none test [] good h = refl
 count_none test (s ∷ all) good h =
     let first : test s ≡ false = ap test h.0 ∙ good in
     let rest = count_none test all good h.1 in
     rw (first, rest) refl
 
-length-found_in : (m : Map) (entries : List HashEntry) → length (found_in m entries) ≡ length entries
+pub length-found_in : (m : Map) (entries : List HashEntry) → length (found_in m entries) ≡ length entries
 length-found_in m [] = refl
 length-found_in m (e ∷ entries) = ap suc (length-found_in m entries)
 
-good_outcome : (v : Verdict) → v.missing ≡ 0 → v.altered ≡ 0 → v.unchecked ≡ 0 → outcome_of v ≡ AllGood
+pub good_outcome : (v : Verdict) → v.missing ≡ 0 → v.altered ≡ 0 → v.unchecked ≡ 0 → outcome_of v ≡ AllGood
 good_outcome v missing altered unchecked = rw (missing, altered, unchecked) refl
-
-pub good_report : (o : Offload) (m : Map) (recs : List Rec) (finish : ℕ) → IsAt o m (Sealed recs finish) → IsGood (length o.plan.files) (report_verdict (sealed_entries o.plan.kinds o.plan.files recs) m (list_of o.plan))
-good_report o m recs finish sealed =
-    let p = o.plan in
-    let has = sealed.0 in
-    let entries = sealed_entries p.kinds p.files recs in
-    let founds = found_in m entries in
-    let good = good_entries p.kinds o.card m 0 p.files recs has.holds.plan.kinds has.holds.records has.recorded in
-    let missing = count_none is_absent (standings founds) refl good in
-    let altered = count_none is_altered (standings founds) refl good in
-    let unchecked = count_none is_uncheckable (standings founds) refl good in
-    record {
-      entries = length-found_in m entries ∙ length-sealed_entries p.kinds p.files recs sealed.1;
-      missing = missing;
-      altered = altered;
-      unchecked = unchecked;
-      outcome = good_outcome (report_verdict entries m (list_of p)) missing altered unchecked;
-    }
 
 some_is : (x y : List ℕ) → ◌≡◌ {A = Option (List ℕ)} (Some x) (Some y) → x ≡ y
 some_is x y e = cc
 
-pub sealed_verifies : (o : Offload) (m : Map) (recs : List Rec) (finish : ℕ) (bytes : List ℕ) (list : Values) → IsAt o m (Sealed recs finish) → get m (list_of o.plan) ≡ Some bytes → Reading bytes list → IsGood (length o.plan.files) (report_verdict list.entries m (list_of o.plan))
-sealed_verifies o m recs finish bytes list sealed stands reading =
+pub sealed_verifies : (o : Offload) (m : Map) (recs : List Rec) (finish : ℕ) (bytes : List ℕ) (list : Values) → IsGood (length o.plan.files) (report_verdict (sealed_entries o.plan.kinds o.plan.files recs) m (list_of o.plan)) → IsAt o m (Sealed recs finish) → get m (list_of o.plan) ≡ Some bytes → Reading bytes list → IsGood (length o.plan.files) (report_verdict list.entries m (list_of o.plan))
+sealed_verifies o m recs finish bytes list good sealed stands reading =
     let text = plan_list_text o.plan recs finish in
     let values = sealed_values o.plan recs finish in
     let same : text ≡ bytes = some_is text bytes (sym sealed.2 ∙ stands) in
     let reads : Reading bytes values = subst (λ (b : List ℕ). Reading b values) same (sealed_reads o m recs finish sealed) in
     let one : values ≡ list = one_reading bytes values list pieces_one piece_not_empty reads reading in
-    subst (λ (l : Values). IsGood (length o.plan.files) (report_verdict l.entries m (list_of o.plan))) one (good_report o m recs finish sealed)
+    subst (λ (l : Values). IsGood (length o.plan.files) (report_verdict l.entries m (list_of o.plan))) one good
