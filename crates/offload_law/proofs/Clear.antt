@@ -20,7 +20,7 @@ use Rattle.offload_law.specs.Steps.{offload}
 use Rattle.offload_law.proofs.Counted.{one_file_each}
 use Rattle.offload_law.proofs.Runs.{told_more, after_on}
 use Rattle.offload_law.proofs.Said.{sealed_announces}
-use Rattle.offload_law.proofs.Safe.{sealed_for_good}
+use Rattle.offload_law.proofs.Safe.{AllSafe, sealed_for_good}
 
 -- a line that was said announces its steps
 said_announces : (P : Protocol) (line : List ℕ) (L : List Event) (told : ℕ) → IsSaid L line → P.announces line ≤ Announced P told L
@@ -71,15 +71,15 @@ module _ (o : Offload) (start : Map) (d told : ℕ) (L : List Event) (each : (li
   ]
 
 -- a drive that was called sealed has all its steps, wherever the run stops from then on
-pub called_sealed : (o : Offload) → IsPlan o.plan → (start : Map) (s : Stage) → IsAt o start s →
+pub called_sealed : AllSafe → (o : Offload) → IsPlan o.plan → (start : Map) (s : Stage) → IsAt o start s →
     (d : ℕ) (before since more : List Event) (end : State (offload d o start)) → IsIn (offload d o start) d start s ((before ++ since) ++ more) end →
     IsCalledSealed d before → (I : Map) → Left start (before ++ since) d I → IsAfter o I (suc (suc (length o.plan.files)))
-called_sealed o plan start s at d before since more end is_in (m, list, short, (ok, said)) I left_I =
+called_sealed safe o plan start s at d before since more end is_in (m, list, short, (ok, said)) I left_I =
     let line = sealed_text d m list in
     let still : IsSaid (before ++ since) line = (ok, Contains-append_left before since (Say line ok) said) in
     let all = said_announces (offload d o start) line (before ++ since) (progress o.plan s) still in
     let steps = sealed_announces d (length o.plan.files) line m list short refl in
-    sealed_for_good o plan start s at d (before ++ since) more end is_in (omega (arith, all, steps)) I left_I
+    sealed_for_good safe o plan start s at d (before ++ since) more end is_in (omega (arith, all, steps)) I left_I
 
 pub all_on_card : (o : Offload) → IsPlan o.plan → (dates : Dates) → IsOfCard o.card dates o.plan → (I : Map) → IsAfter o I (suc (suc (length o.plan.files))) → IsAfterOn o.card dates I (all_steps o.card)
 all_on_card o plan dates of I after =

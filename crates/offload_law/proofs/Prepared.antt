@@ -1,19 +1,16 @@
--- A change that prepares leaves the stage, however far it came.
-use Rattle.std.proofs.Common.{◌≡◌, inl, inr, ℕ, suc, ◌<◌, List, ◌∷◌, ◌++◌, length, drop, sym, ap, ◌∙◌, subst, arith}
-use Rattle.bay_core.specs.declared.event.Event.{Event}
-use Rattle.bay_core.specs.declared.event.Event.TheVariants.{AttachSource, AttachDrive, AttachFailed, SourceList, SourceRead, DriveList, DriveRead, Write, Sync, Rename, Remove, Moment, Pick, Say}
+-- What the changes that prepare leave of a map.
+use Rattle.std.proofs.Common.{◌≡◌, inl, inr, ℕ, suc, ◌<◌, List, ◌∷◌, ◌++◌, length, drop, ◌∙◌, subst, arith}
 use Rattle.std.specs.FinMap.{get, insert}
 use Rattle.bay_core.specs.Map.{Map, content}
-use Rattle.bay_core.specs.Torn.{Torn, TornFile}
+use Rattle.bay_core.specs.Torn.{TornFile}
 use Rattle.bay_core.specs.Paths.{journal_path}
 use Rattle.copy_plan.specs.Plan.{PlanValue, IsPlan, list_of}
 use Rattle.drive_journal.specs.declared.record.Rec.{Rec}
 use Rattle.drive_journal.specs.Journal.{HoldsJournal, journal_code}
 use Rattle.drive_journal.proofs.Keeping.{content_there}
-use Rattle.offload_law.specs.Stages.{Offload, Stage, Fresh, Begun, Sealed, progress}
-use Rattle.offload_law.specs.Steps.{Holds, IsFree, IsBehindGate, Prepares}
+use Rattle.offload_law.specs.Stages.{Offload, Stage, Begun, progress}
+use Rattle.offload_law.specs.Steps.{Holds, IsFree}
 use Rattle.bay_core.proofs.Maps.{insert_here, insert_other}
-use Rattle.bay_core.proofs.Changes.{torn_other}
 use Rattle.bay_core.proofs.Files.{torn_behind}
 use Rattle.offload_law.proofs.Plans.{not_journal, list_free, file_free}
 use Rattle.offload_law.proofs.Recorded.{recorded_same}
@@ -56,33 +53,9 @@ module _ (o : Offload) (plan : IsPlan o.plan) (base : Map) where
     rest = rest_step o.plan (suc (length recs)) (suc (length recs)) h.rest (omega arith) (λ q t. insert_other m journal_path bytes q (λ e. t (inr (inl (omega arith, e)))));
   }
 
-  behind_keeps : (s : Stage) (m : Map) (at n : ℕ) (bytes : List ℕ) → Holds o base s m → IsBehindGate o.plan s at → TornFile at n (content m journal_path) bytes → Holds o base s (insert m journal_path bytes)
-  behind_keeps (Begun recs) m at n bytes h b torn =
+  -- a write behind the closed gate
+  pub behind_keeps : (m : Map) (recs : List Rec) (at n : ℕ) (bytes : List ℕ) → Holds o base (Begun recs) m → length (journal_code o.plan recs) < at → TornFile at n (content m journal_path) bytes → Holds o base (Begun recs) (insert m journal_path bytes)
+  behind_keeps m recs at n bytes h b torn =
       let has = h.at.0 in
       let torn2 : TornFile at n has.bytes bytes = subst (λ (l : List ℕ). TornFile at n l bytes) (content_there m has.bytes has.stands) torn in
       journal_keeps m recs bytes h (behind_journal o.plan at n recs has.bytes bytes has.holds torn2 b)
-  behind_keeps Fresh m at n bytes h b torn = absurd b
-  behind_keeps (Sealed recs finish) m at n bytes h b torn = absurd b
-
-  pub prepared : (s : Stage) (e : Event) (m new : Map) → Prepares o.plan s e → Holds o base s m → Torn e m new → Holds o base s new
-  prepared s (Write d path at piece done) m new (inl free) h torn =
-      free_keeps s m new h (λ q f. torn_other (Write d path at piece done) m new torn q (λ e. f (subst (IsFree o.plan s) (sym e) free)))
-  prepared s (Write d path at piece done) m new (inr behind) h (inl same) = subst (Holds o base s) (sym same) h
-  prepared s (Write d path at piece done) m new (inr behind) h (inr torn) =
-      let torn2 : TornFile at (length piece) (content m journal_path) torn.0 = subst (λ (q : List ℕ). TornFile at (length piece) (content m q) torn.0) behind.0 torn.1 in
-      subst (Holds o base s) (sym (torn.2 ∙ ap (λ (q : List ℕ). insert m q torn.0) behind.0)) (behind_keeps s m at (length piece) torn.0 h behind.1 torn2)
-  prepared s (Rename d from to done) m new free h torn =
-      free_keeps s m new h (λ q f. torn_other (Rename d from to done) m new torn q (elim [ inl e ↦ f (subst (IsFree o.plan s) (sym e) free.0) | inr e ↦ f (subst (IsFree o.plan s) (sym e) free.1) ]))
-  prepared s (Remove d path done) m new free h torn =
-      free_keeps s m new h (λ q f. torn_other (Remove d path done) m new torn q (λ e. f (subst (IsFree o.plan s) (sym e) free)))
-  prepared s (AttachDrive d place) m new free h torn = absurd free
-  prepared s (AttachSource n place) m new free h torn = absurd free
-  prepared s (SourceList n got) m new free h torn = absurd free
-  prepared s (SourceRead n path at want got) m new free h torn = absurd free
-  prepared s (AttachFailed place) m new free h torn = absurd free
-  prepared s (DriveList d got) m new free h torn = absurd free
-  prepared s (DriveRead d path at want got) m new free h torn = absurd free
-  prepared s (Moment t0) m new free h torn = absurd free
-  prepared s (Sync d done) m new free h torn = absurd free
-  prepared s (Pick n) m new free h torn = absurd free
-  prepared s (Say line done) m new free h torn = absurd free

@@ -9,7 +9,7 @@ ghost use Rattle.bay_core.specs.Left.{Left};
 ghost use Rattle.bay_core.specs.Paths.{IsScratch};
 ghost use Rattle.bay_core.specs.Replay.{Device, Drive};
 ghost use Rattle.bay_core.specs.Went.{AllOn};
-ghost use Rattle.crash_law.specs.Protocol.{State, IsIn, Announced};
+ghost use Rattle.crash_law.specs.Protocol.{IsSafe, State, IsIn, Announced};
 ghost use Rattle.crash_law.specs.Law.{CrashLaw, Stays};
 ghost use Rattle.crash_law.specs.Lines.{AllLines};
 ghost use Rattle.drive_journal.specs.declared.record.Rec.{Rec};
@@ -21,6 +21,12 @@ ghost use Rattle.offload_law.specs.Stages.{Offload, Stage, IsAt, IsAfter, IsAfte
 ghost use Rattle.offload_law.specs.Steps.{offload};
 ghost use Rattle.offload_law.specs.InPlace.{Seal, IsSeal, IsWholeOrAbsent, seal_in_place};
 ghost use Rattle.offload_law.specs.Runs.{LeftByRuns, LeftByRunsOn};
+
+/// The changes of an offload are safe: however far it came, one that prepares leaves the stage, and one that commits leaves
+/// its stage or the next, which is one step more.
+pub fn steps_are_safe()
+    ensures { (d : ℕ) (o : Offload) → IsPlan o.plan → (base : Map) → IsSafe (offload d o base) }
+{}
 
 /// Wherever a run that keeps to the steps stops, within a write too, the drive is left with a prefix of the offload's
 /// steps that holds every step announced for it, and at most one more.
@@ -38,7 +44,9 @@ pub fn crash_prefix()
         × (Announced (offload d o start) (progress o.plan s) L ≤ steps)
         × (steps ≤ suc (Announced (offload d o start) (progress o.plan s) L)) }
     ensures unchanged { (card : Map) (dates : Dates) (m : Map) (steps : ℕ) → IsAfterOn card dates m steps → StandsAfter (HoldsPlan m) card dates m m steps }
-{}
+{
+    steps_are_safe();
+}
 
 /// Once the line `sealed` of a drive was said, each stop leaves all its steps.
 pub fn sealed_for_good()
@@ -46,7 +54,9 @@ pub fn sealed_for_good()
         (d : ℕ) (L more : List Event) (end : State (offload d o start)) → IsIn (offload d o start) d start s (L ++ more) end →
         suc (suc (length o.plan.files)) ≤ Announced (offload d o start) (progress o.plan s) L →
         (I : Map) → Left start L d I → IsAfter o I (suc (suc (length o.plan.files))) }
-{}
+{
+    steps_are_safe();
+}
 
 /// A drive that was called sealed has all its steps at each stop from then on. So has each of the drives that were called
 /// sealed before a moment, each with an offload of its own.
@@ -59,7 +69,9 @@ pub fn called_sealed()
         (since more : List Event) (end : State (offload d o start)) → IsIn (offload d o start) d start s ((before ++ since) ++ more) end →
         (I : Map) → Left start (before ++ since) d I → IsAfterOn o.card dates I (all_steps o.card) }
     ensures one_count { (drives others : List ℕ) (L : List Event) → AreCalledSealed drives L → AreCalledSealed others L → length drives ≡ length others }
-{}
+{
+    steps_are_safe();
+}
 
 /// The announced steps of an offload are the greatest number of those that its drive had and those that a line announces.
 pub fn greatest_told()
@@ -83,7 +95,9 @@ pub fn others_keep()
 pub fn after_runs()
     ensures { (o : Offload) → IsPlan o.plan → (base m : Map) (s : Stage) → IsAt o base s → LeftByRuns o base m →
         (steps : ℕ) × IsAfter o m steps × KeepsRest o.plan m base steps × (progress o.plan s ≤ steps) }
-{}
+{
+    steps_are_safe();
+}
 
 /// Whatever plans of the card its runs have, a drive that was ours stays ours. Once it has a journal the plan stays,
 /// and no step is taken back.
@@ -92,7 +106,9 @@ pub fn ours_after_runs()
     ensures kept { (card : Map) (dates : Dates) (base m : Map) → LeftByRunsOn card dates base m → (p : PlanValue) → IsPlan p → (k : ℕ) → IsAfter (record { plan = p; card = card }) base (suc k) →
         (steps : ℕ) × IsAfter (record { plan = p; card = card }) m steps × (suc k ≤ steps) }
     ensures never_back { (card : Map) (dates : Dates) (base m : Map) → LeftByRunsOn card dates base m → (j k : ℕ) → IsAfterOn card dates base j → IsAfterOn card dates m k → j ≤ k }
-{}
+{
+    steps_are_safe();
+}
 
 /// A map is after one number of steps at most, whichever plans and cards they are of.
 pub fn one_progress()
