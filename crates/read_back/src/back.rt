@@ -8,18 +8,23 @@ use crate::pieces::{ask_past_end, feed_pieces};
 use bay_core::Bay;
 use block_pool::{Pool, Slot};
 use digest_set::{Fan, Triple, triple_of};
+use thiserror::Error;
 
 /// Why a copy is not known to be good.
-#[derive(Clone, Copy, Debug, PartialEq, Eq)]
+#[derive(Clone, Copy, Debug, PartialEq, Eq, Error)]
 pub enum ReadBackError {
     /// A read failed, and the drive's count rose.
+    #[error("a read failed")]
     DriveFailed,
     /// A read answered that there is no such file.
+    #[error("there is no such file")]
     Absent,
     /// The recorded size in bytes, and how many bytes the reads gave: fewer, where they came to an end before, or one more,
     /// where a byte came at the recorded size. Nothing past that byte is read.
+    #[error("{read} bytes were read, and {recorded} were recorded")]
     Length { recorded: u64, read: u64 },
     /// The length is the recorded one, and the digests of the bytes that were read are not the recorded ones.
+    #[error("the digests are not those recorded")]
     Differs { recorded: Triple, read: Triple },
 }
 
