@@ -1,11 +1,12 @@
 // The turns of a copy.
 ghost use Rattle.std.specs.Prelude.{◌≡◌, ◌≢◌, ℕ, List, ◌++◌, [], ◌∷◌, ◌+◌, ◌*◌, ◌^◌, ◌<◌, ◌≤◌, true, false, is_ok, length, IfOk, IfNone, IfSome, Some, None, slice_index};
 ghost use Rattle.bay_core.specs.Crashes.{Leaves, IsAny, OnlyAt};
+ghost use Rattle.bay_core.specs.declared.event.Event.TheVariants.{Pick};
 ghost use Rattle.bay_core.specs.Map.{Map, content};
 ghost use Rattle.bay_core.specs.Paths.{part_path};
-ghost use Rattle.bay_core.specs.Replay.{Source, Drive};
+ghost use Rattle.bay_core.specs.Replay.{Source, Drive, Picker};
 ghost use Rattle.bay_core.specs.World.{World, Steady};
-ghost use Rattle.bay_core.specs.Went.{Went, Called, Tried, Only, write_call};
+ghost use Rattle.bay_core.specs.Went.{Went, Called, Tried, Only, IsCall, write_call};
 ghost use Rattle.block_pool.specs.Lent.{PoolState, is_lent, free_in};
 ghost use Rattle.digest_set.specs.Fed.{AllFed, Md5Fed, Sha1Fed, XxhFed};
 ghost use Rattle.digest_set.specs.Triple.{triple};
@@ -43,6 +44,13 @@ fn without_all(drives: Drives, others: Drives) -> Drives
         }
     }
     left
+}
+
+// Asks for the pick of an act.
+fn ask<B: Bay>(bay: &mut B) -> u32
+    ensures { Called Picker (IsCall (Pick result)) true (B.world bay.old) (B.world bay.new) }
+{
+    bay.pick()
 }
 
 impl FileCopy {
@@ -226,7 +234,7 @@ impl FileCopy {
         ensures turned { (bytes : List ℕ) → Copying self.old pool.old (B.world bay.old) bytes
             → Turned path.now self.old self.new pool.new (B.world bay.old) (B.world bay.new) bytes result }
     {
-        let pick = bay.pick();
+        let pick = ask(bay);
         match self.window.next(pick) {
             Act::Read => match self.read_block(bay, pool, path) {
                 Ok(None) => Turn::Going,
