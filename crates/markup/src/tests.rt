@@ -302,8 +302,3 @@ fn finds_values(rt: HostRuntime) {
         );
     }
 }
-
-#[test]
-fn states_the_law(_rt: HostRuntime) {
-    pieces_are_exact();
-}

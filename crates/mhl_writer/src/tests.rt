@@ -1,8 +1,8 @@
-ghost use Rattle.std.specs.Prelude.{◌≤◌, IfOk, IsTrue};
+ghost use Rattle.std.specs.Prelude.{◌≤◌, IfOk, IfSome, IsTrue};
 ghost use Rattle.path_text.specs.Path.{is_path};
 ghost use Rattle.path_text.specs.Moment.{last_moment};
 ghost use Rattle.mhl_writer.specs.Note.{is_note};
-ghost use Rattle.mhl_writer.specs.ListText.{IsCanonical, values_of};
+ghost use Rattle.mhl_writer.specs.ListText.{IsCanonical, IsDigest, values_of};
 
 use super::*;
 use path_text::{Moment, PathText, Scratch};
@@ -174,8 +174,12 @@ fn list(
     path: PathText,
     size: u64,
     md5: &[u8; 16],
+    sha1: Option<[u8; 20]>,
+    xxh: Option<[u8; 8]>,
 ) -> Result<HashList, Fail>
-    requires { IsTrue (is_path path) }
+    requires path { IsTrue (is_path path) }
+    requires sha1 { IfSome sha1 (IsDigest 20) }
+    requires xxh { IfSome xxh (IsDigest 8) }
     ensures { IfOk result (λ list. IsCanonical (values_of list)) }
 {
     let mut entries = Vec::new(alloc);
@@ -185,8 +189,8 @@ fn list(
         modified: Some(moment(rt, MIDNIGHT)),
         hashed: Some(moment(rt, NOON)),
         md5: Some(*md5),
-        sha1: None,
-        xxh: None,
+        sha1,
+        xxh,
     })?;
     let creator = Creator {
         name: Some(note(rt, alloc, "A001")?),
@@ -202,9 +206,19 @@ fn list(
 #[test]
 fn a_list_is_written(rt: HostRuntime) -> Result<(), Fail> {
     let path = path(rt.alloc(), "a.mov")?;
-    let list = list(&rt, rt.alloc(), path, 3, &MD5_ABC)?;
+    let list = list(&rt, rt.alloc(), path, 3, &MD5_ABC, None, None)?;
     let text = write_list(rt.alloc(), &list)?;
     let wanted = format!(in rt.alloc(); "{HEAD}{MD5_ALONE}{TAIL}")?;
+    assert_eq!(rt; text.as_slice(), wanted.as_bytes());
+    Ok(())
+}
+
+#[test]
+fn a_list_of_all_digests_is_written(rt: HostRuntime) -> Result<(), Fail> {
+    let path = path(rt.alloc(), "e.mov")?;
+    let list = list(&rt, rt.alloc(), path, 0, &MD5, Some(SHA1), Some(XXH))?;
+    let text = write_list(rt.alloc(), &list)?;
+    let wanted = format!(in rt.alloc(); "{HEAD}{ALL}{TAIL}")?;
     assert_eq!(rt; text.as_slice(), wanted.as_bytes());
     Ok(())
 }
