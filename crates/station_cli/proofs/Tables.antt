@@ -1,21 +1,45 @@
 -- Tables that are said line by line.
-use Rattle.std.proofs.Common.{◌≡◌, ◌<◌, ◌≤◌, ◌+◌, ℕ, false, true, List, [], ◌∷◌, ◌++◌, map, length, take, drop, get_or, refl, sym, ◌∙◌, ap, subst, append_assoc}
+use Rattle.std.proofs.Common.{◌≡◌, inl, inr, ◌<◌, ◌≤◌, ◌+◌, ℕ, false, true, List, [], ◌∷◌, ◌++◌, map, length, take, drop, get_or, refl, sym, ◌∙◌, ap, subst, append_assoc, append-nil}
 use Rattle.std.proofs.lemmas.List.{map-append, take_more, take_all, take-append-drop}
 use Rattle.bay_core.specs.declared.event.Event.{Event}
 use Rattle.bay_core.specs.declared.event.Event.TheVariants.{Say}
 use Rattle.bay_core.specs.Replay.{Output}
 use Rattle.bay_core.specs.World.{World}
 use Rattle.bay_core.specs.Went.{Only, Called, Ran, MaySee, say_call}
-use Rattle.bay_core.specs.Looks.{says}
+use Rattle.bay_core.specs.Looks.{IsUntouched, Looks, says, said}
 use Rattle.bay_core.proofs.Runs.{went_then, went_such, went_none, rose_since, all_ran}
-use Rattle.bay_core.proofs.Looking.{exact_then, exact_as}
-use Rattle.station_cli.proofs.Ends.{seen_or_not}
+use Rattle.bay_core.proofs.Looking.{exact_then, exact_as, looks_keep, says_looks, untouched_none, untouched_one, untouched_append, said_append, said_says}
 use Rattle.mhl_writer.specs.ListText.{Values}
 use Rattle.report_text.specs.Line.{entries_text}
-use Rattle.station_cli.specs.Table.{creator_rows, row_of, print_lines, Told, Untold}
+use Rattle.station_cli.specs.Table.{creator_rows, row_of, print_lines, BrokeOff, Told, Untold}
+
+seen_or_not : (line : List ℕ) (L : List Event) → Ran (say_call line ∷ []) false L → MaySee (Say line false) L
+unfolding Ran
+seen_or_not line L (inl none) = inl none
+seen_or_not line L (inr (inl one)) = inr one
+seen_or_not line L (inr (inr (rest, is, more))) = absurd more
 
 says_append : (A B : List (List ℕ)) → says (A ++ B) ≡ says A ++ says B
 says_append A B = map-append (λ t. Say t true) A B
+
+-- lines that are said, and a line that is not, change nothing
+pub lines_keep : (lines : List (List ℕ)) (L : List Event) → L ≡ says lines → IsUntouched L
+lines_keep lines L is = looks_keep L (subst Looks (sym is) (says_looks lines))
+
+unsaid_keeps : (line : List ℕ) (L : List Event) → MaySee (Say line false) L → IsUntouched L
+unsaid_keeps line L (inl is) = subst IsUntouched (sym is) untouched_none
+unsaid_keeps line L (inr is) = subst IsUntouched (sym is) (untouched_one (Say line false) refl)
+
+pub broken_keeps : (lines : List (List ℕ)) (L : List Event) → BrokeOff lines L → IsUntouched L
+broken_keeps lines L b = subst IsUntouched (sym b.calls_are) (untouched_append (says b.first) b.last (lines_keep b.first (says b.first) refl) (unsaid_keeps b.next b.last b.failed))
+
+-- what was said of lines that broke off
+unsaid_says : (line : List ℕ) (L : List Event) → MaySee (Say line false) L → said L ≡ []
+unsaid_says line L (inl is) = ap said is
+unsaid_says line L (inr is) = ap said is
+
+pub broken_said : (lines : List (List ℕ)) (L : List Event) (b : BrokeOff lines L) → said L ≡ b.first
+broken_said lines L b = ap said b.calls_are ∙ said_append (says b.first) b.last ∙ (λ i. said_says b.first i ++ unsaid_says b.next b.last b.failed i) ∙ append-nil b.first
 
 -- no line
 pub told_none : (w : World) → Told [] w w

@@ -1,3 +1,7 @@
 pub mod Words
 pub mod Table
-pub mod Story
+pub mod Ends
+pub mod Runs
+pub mod Verify
+pub mod Print
+pub mod Station

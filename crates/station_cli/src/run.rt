@@ -1,8 +1,12 @@
 //! A run of the station, from its words to its status.
-ghost use Rattle.std.specs.Prelude.{◌≡◌, ◌<◌, ◌-◌, ◌^◌};
+ghost use Rattle.std.specs.Prelude.{◌≡◌, ◌<◌, ◌-◌, ◌^◌, ℕ, List, Some};
 ghost use Rattle.report_text.specs.Line.{line_text, IsShort};
-ghost use Rattle.station_cli.specs.declared.words.Command.TheVariants.{Verify, Print};
-ghost use Rattle.station_cli.specs.Story.{LastLine, Ended, memory_end, fault_end, load_end, verify_end, outcome_status, RanOn, RanCommand, Ran};
+ghost use Rattle.station_cli.specs.Words.{command_of, drive_word};
+ghost use Rattle.station_cli.specs.Ends.{with_line, Ended, memory_end, fault_end, load_end, broken_end, outcome_status};
+ghost use Rattle.station_cli.specs.Runs.{Unchanged};
+ghost use Rattle.station_cli.specs.Verify.{VerifyRun, VerifiedThen};
+ghost use Rattle.station_cli.specs.Print.{PrintRun, PrintedThen};
+ghost use Rattle.station_cli.specs.Station.{HasRoom, Ran};
 
 use crate::printing::print_list;
 use crate::words::{Command, WordList, WordsError, read_words};
@@ -16,7 +20,7 @@ use verify_run::{LoadError, Outcome, VerifyError, load_list, verify};
 // Says the last line of a run, and answers its status, or 5 where the line could not be said.
 fn end<B: Bay>(bay: &mut B, scratch: &mut Scratch, line: &Line<'_>, status: u8) -> u8
     requires { IsShort line.now }
-    ensures { Ended (LastLine (line_text line.now) status) result (B.world bay.old) (B.world bay.new) }
+    ensures { Ended (with_line (line_text line.now) status) result (B.world bay.old) (B.world bay.new) }
 {
     line_into(line, scratch);
     match bay.say(scratch.bytes()) {
@@ -81,7 +85,7 @@ fn end_unloaded<B: Bay>(bay: &mut B, scratch: &mut Scratch, error: LoadError) ->
 
 // Ends a run whose verification broke off.
 fn end_unverified<B: Bay>(bay: &mut B, scratch: &mut Scratch, error: VerifyError) -> u8
-    ensures { Ended (verify_end error) result (B.world bay.old) (B.world bay.new) }
+    ensures { Ended (broken_end error) result (B.world bay.old) (B.world bay.new) }
 {
     match error {
         VerifyError::DriveFailed => end(bay, scratch, &Line::FailedDrive, 8),
@@ -99,7 +103,7 @@ fn verify_attached<B: Bay>(
     list: &PathText,
 ) -> u8
     requires { d < (B.world bay.old).attached.drives }
-    ensures { RanOn d (Verify list.now) result (B.world bay.old) (B.world bay.new) }
+    ensures { VerifiedThen d list.now result (B.world bay.old) (B.world bay.new) }
 {
     let hashes = match load_list(alloc, bay, d, list) {
         Ok(hashes) => hashes,
@@ -120,7 +124,7 @@ fn print_attached<B: Bay>(
     list: &PathText,
 ) -> u8
     requires { d < (B.world bay.old).attached.drives }
-    ensures { RanOn d (Print list.now) result (B.world bay.old) (B.world bay.new) }
+    ensures { PrintedThen d list.now result (B.world bay.old) (B.world bay.new) }
 {
     let hashes = match load_list(alloc, bay, d, list) {
         Ok(hashes) => hashes,
@@ -132,51 +136,70 @@ fn print_attached<B: Bay>(
     }
 }
 
-// Does what a command asks for on an attached drive.
-fn run_attached<B: Bay>(
+// Attaches the drive at a place, and verifies it by its list.
+fn verify_place<B: Bay>(
     alloc: Global,
     bay: &mut B,
     scratch: &mut Scratch,
-    d: u32,
-    command: &Command,
+    list: &PathText,
+    place: &str,
 ) -> u8
-    requires { d < (B.world bay.old).attached.drives }
-    ensures { RanOn d command.now result (B.world bay.old) (B.world bay.new) }
+    requires { (B.world bay.old).attached.drives < 2 ^ 32 - 1 }
+    ensures { VerifyRun list.now place.now result (B.world bay.old) (B.world bay.new) }
 {
-    match command {
-        Command::Verify { list } => verify_attached(alloc, bay, scratch, d, list),
-        Command::Print { list } => print_attached(alloc, bay, scratch, d, list),
+    match bay.attach_drive(place) {
+        Ok(d) => verify_attached(alloc, bay, scratch, d, list),
+        Err(_) => end(bay, scratch, &Line::FailedAttachDrive(0), 4),
     }
 }
 
-// Attaches the drive of a command, and does what the command asks for there.
-fn run_on_drive<B: Bay>(
+// Attaches the drive at a place, and says the table of its list.
+fn print_place<B: Bay>(
+    alloc: Global,
+    bay: &mut B,
+    scratch: &mut Scratch,
+    list: &PathText,
+    place: &str,
+) -> u8
+    requires { (B.world bay.old).attached.drives < 2 ^ 32 - 1 }
+    ensures { PrintRun list.now place.now result (B.world bay.old) (B.world bay.new) }
+{
+    match bay.attach_drive(place) {
+        Ok(d) => print_attached(alloc, bay, scratch, d, list),
+        Err(_) => end(bay, scratch, &Line::FailedAttachDrive(0), 4),
+    }
+}
+
+// Does what a command asks for.
+fn run_read<B: Bay>(
     alloc: Global,
     bay: &mut B,
     scratch: &mut Scratch,
     command: &Command,
     place: &str,
 ) -> u8
-    requires { (B.world bay.old).attached.drives < 2 ^ 32 - 1 }
-    ensures { RanCommand command.now place.now result (B.world bay.old) (B.world bay.new) }
+    requires { HasRoom (Some command.now) (B.world bay.old).attached }
+    ensures { (words : List (List ℕ)) → command_of words ≡ Some command.now → place.now ≡ drive_word words → Ran words result (B.world bay.old) (B.world bay.new) }
 {
-    match bay.attach_drive(place) {
-        Ok(d) => run_attached(alloc, bay, scratch, d, command),
-        Err(_) => end(bay, scratch, &Line::FailedAttachDrive(0), 4),
+    match command {
+        Command::Verify { list } => verify_place(alloc, bay, scratch, list, place),
+        Command::Print { list } => print_place(alloc, bay, scratch, list, place),
     }
 }
 
 /// Does what the words ask for, and answers the status (docs/OPERATING.md).
 pub fn run_command<B: Bay>(alloc: Global, bay: &mut B, words: &WordList) -> u8
-    requires { (B.world bay.old).attached.drives < 2 ^ 32 - 1 }
-    ensures { Ran words.now result (B.world bay.old) (B.world bay.new) }
+    requires { HasRoom (command_of words.now) (B.world bay.old).attached }
+    ensures ran { Ran words.now result (B.world bay.old) (B.world bay.new) }
+    // No command that there is changes anything.
+    ensures unchanged { Unchanged (B.world bay.old) (B.world bay.new) }
 {
     let mut scratch = match Scratch::new(alloc) {
         Ok(scratch) => scratch,
         Err(_) => return say_memory(bay),
     };
     match read_words(alloc, words) {
-        Ok(command) => run_on_drive(alloc, bay, &mut scratch, &command, words.word(2)),
+        Ok(command) => run_read(alloc, bay, &mut scratch, &command, words.word(2)),
         Err(WordsError::Words) => end(bay, &mut scratch, &Line::RefusedWords, 2),
         Err(WordsError::Memory) => say_memory(bay),
     }
@@ -184,8 +207,10 @@ pub fn run_command<B: Bay>(alloc: Global, bay: &mut B, words: &WordList) -> u8
 
 /// The station: everything that the program does with its words, over any bay.
 pub fn station<B: Bay>(alloc: Global, bay: &mut B, words: &WordList) -> u8
-    requires { (B.world bay.old).attached.drives < 2 ^ 32 - 1 }
-    ensures { Ran words.now result (B.world bay.old) (B.world bay.new) }
+    requires { HasRoom (command_of words.now) (B.world bay.old).attached }
+    ensures ran { Ran words.now result (B.world bay.old) (B.world bay.new) }
+    // No command that there is changes anything.
+    ensures unchanged { Unchanged (B.world bay.old) (B.world bay.new) }
 {
     run_command(alloc, bay, words)
 }

@@ -1,11 +1,13 @@
-ghost use Rattle.std.specs.Prelude.{◌≡◌, IfOk};
+ghost use Rattle.std.specs.Prelude.{◌≡◌, IfOk, true, [], codes, Some};
 ghost use Rattle.bay_mem.specs.State.{world_of};
+ghost use Rattle.station_cli.specs.Verify.{IsOfVerdict, ReportOn};
 
 use crate::run::station;
-use crate::words::WordList;
+use crate::words::{WordList, program_words};
 use bay_core::{DriveGot, Event};
 use bay_mem::{MemBay, MemMap};
 use std::alloc::{AllocError, Global};
+use std::env::{Env, FillError};
 use std::test::Fail;
 
 // A list with one entry: a.mov, the bytes `abc`. The digest is of RFC 1321.
@@ -141,6 +143,33 @@ fn drives_are_verified(rt: HostRuntime) -> Result<(), Fail> {
     Ok(())
 }
 
+// What verifying files by the list at x.mhl among them comes to, in a bay that was made with them and does not lie.
+fn verified(alloc: Global, files: MemMap) -> Result<(u8, MemBay), AllocError>
+    // The status of a verdict is that of the report on these files, and the lines are its lines.
+    ensures { IfOk result (λ r. r.1.seen.told ≡ true → IsOfVerdict r.0 → ReportOn files.map (codes "x.mhl") r.0 (Some []) r.1.seen.events) }
+{
+    let mut bay = MemBay::new(alloc);
+    bay.add_drive("D", files)?;
+    let mut words = WordList::new(alloc);
+    words.push("verify")?;
+    words.push("x.mhl")?;
+    words.push("D")?;
+    let status = station(alloc, &mut bay, &words);
+    Ok((status, bay))
+}
+
+#[test]
+fn a_place_is_verified_as_it_was_made(rt: HostRuntime) -> Result<(), Fail> {
+    let alloc = rt.alloc();
+    let mut files = MemMap::new(alloc);
+    files.add("a.mov", b"abc", 0)?;
+    files.add("x.mhl", LIST.as_bytes(), 0)?;
+    let (status, bay) = verified(alloc, files)?;
+    let expected = format!(in alloc; "ALRRLRRS\n{GOOD}0")?;
+    assert_eq!(rt; told(alloc, &bay, status)?.as_str(), expected.as_str());
+    Ok(())
+}
+
 // A list with these entries.
 fn list_of(alloc: Global, entries: &str) -> Result<String, Fail> {
     let Some((head, _)) = LIST.split_once("  <hash>\n") else {
@@ -234,6 +263,29 @@ fn each_kind_of_digest_is_checked(rt: HostRuntime) -> Result<(), Fail> {
 }
 
 #[test]
+fn a_file_of_more_than_one_block_is_verified(rt: HostRuntime) -> Result<(), Fail> {
+    let alloc = rt.alloc();
+    // One byte more than a block, each byte an `a`; and the same with a `b` at the end. The digests are those of md5sum.
+    let block = "a".repeat(alloc, 65536)?;
+    let good = format!(in alloc; "{block}a")?;
+    let other = format!(in alloc; "{block}b")?;
+    let digest = "    <md5>b3c6fc238e908636e53aabd5ad830cf7</md5>\n";
+    let list = list_of(alloc, &entry(alloc, "a.mov", 65537, digest)?)?;
+    let files = [("x.mhl", list.as_str()), ("a.mov", good.as_str())];
+    let expected = format!(in alloc; "ALRRLRRRS\n{GOOD}0")?;
+    assert_eq!(rt; run(alloc, &files, &VERIFY, 0)?.as_str(), expected.as_str());
+    let files = [("x.mhl", list.as_str()), ("a.mov", other.as_str())];
+    assert_eq!(rt;
+        run(alloc, &files, &VERIFY, 0)?.as_str(),
+        "ALRRLRRRSS
+altered md5 b3c6fc238e908636e53aabd5ad830cf7 26699477617ad3fc62ab1edd0e5d69c2 a.mov
+verdict bad 1 entries 0 missing 1 altered 0 unchecked 0 unlisted
+1"
+    );
+    Ok(())
+}
+
+#[test]
 fn other_words_are_refused(rt: HostRuntime) -> Result<(), Fail> {
     let alloc = rt.alloc();
     let rows: [&[&str]; 15] = [
@@ -256,6 +308,54 @@ fn other_words_are_refused(rt: HostRuntime) -> Result<(), Fail> {
     for words in rows {
         let text = run(alloc, &[("x.mhl", LIST)], words, 0)?;
         assert_eq!(rt; text.as_str(), "S\nrefused words\n2");
+    }
+    Ok(())
+}
+
+// A system that hands over these words, the program's name first.
+#[derive(Drop)]
+struct Handed<'a> {
+    words: &'a [&'a [u8]],
+}
+
+impl Env for Handed<'_> {
+    fn arg(&self, i: usize, buf: &mut [u8]) -> Result<usize, FillError> {
+        let Some(word) = self.words.get(i) else {
+            return Err(FillError::NotPresent);
+        };
+        if word.len() > buf.len() {
+            return Err(FillError::TooLong);
+        }
+        buf[..word.len()].copy_from_slice(word);
+        Ok(word.len())
+    }
+
+    fn var(&self, _name: &str, _buf: &mut [u8]) -> Result<usize, FillError> {
+        Err(FillError::NotPresent)
+    }
+
+    fn var_at(&self, _i: usize, _buf: &mut [u8]) -> Result<usize, FillError> {
+        Err(FillError::NotPresent)
+    }
+}
+
+#[test]
+fn the_words_of_the_system_are_taken(rt: HostRuntime) -> Result<(), Fail> {
+    let alloc = rt.alloc();
+    let long = vec![in alloc; b'a'; 131_073]?;
+    let handed = [
+        "station_cli".as_bytes(),
+        "verify".as_bytes(),
+        &[0xff],
+        &long,
+        "D".as_bytes(),
+    ];
+    let words = program_words(&Handed { words: &handed }, alloc)?;
+    assert_eq!(rt; words.count(), 4);
+    for (i, wanted) in ["verify", "", "", "D"].iter().enumerate() {
+        if i < words.count() {
+            assert_eq!(rt; words.word(i), *wanted);
+        }
     }
     Ok(())
 }

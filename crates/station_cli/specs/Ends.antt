@@ -1,0 +1,91 @@
+-- How a run ends, by its cause: docs/FORMATS.md, "Statuses".
+use Rattle.std.specs.Prelude.{◌≡◌, ◌≢◌, ◌⊎◌, ℕ, List, [], ◌∷◌, codes}
+use Rattle.bay_core.specs.declared.event.Event.{Event}
+use Rattle.bay_core.specs.Replay.{Output}
+use Rattle.bay_core.specs.World.{World, Rose}
+use Rattle.bay_core.specs.Went.{Went, Only}
+use Rattle.bay_core.specs.Looks.{says}
+use Rattle.mhl_reader.specs.declared.error.ReadError.{ReadError}
+use Rattle.mhl_reader.specs.declared.error.ReadError.TheVariants.{NotUtf8, Malformed, Doctype, Cdata, Version, NoFile, Twice, BadPath, BadSize, BadDigest, TooMany, Memory as MemoryRead}
+use Rattle.report_text.specs.Line.{failed_attach_drive_text, unreadable_toolarge_text, unreadable_text}
+use Rattle.verify_run.specs.declared.loading.LoadError.{LoadError}
+use Rattle.verify_run.specs.declared.loading.LoadError.TheVariants.{DriveFailed, Absent, TooLarge, Unreadable, Memory}
+use Rattle.verify_run.specs.declared.verdict.VerifyError.{VerifyError}
+use Rattle.verify_run.specs.declared.verdict.VerifyError.TheVariants.{DriveFailed as DriveFailedThen, OutFailed, Memory as MemoryThen}
+use Rattle.verify_run.specs.declared.verdict.Outcome.{Outcome}
+use Rattle.verify_run.specs.declared.verdict.Outcome.TheVariants.{AllGood, SomeBad, SomeUnchecked}
+use Rattle.station_cli.specs.Table.{BrokeOff}
+
+-- how a run ends: with these lines, and then a status
+pub record End : Type 0 where
+  pub lines : List (List ℕ)
+  pub status : ℕ
+
+-- one line, and then a status
+abbrev pub with_line : List ℕ → ℕ → End
+with_line line status = record { lines = line ∷ []; status = status }
+
+-- a status alone
+abbrev pub with_status : ℕ → End
+with_status status = record { lines = []; status = status }
+
+abbrev pub memory_end : End
+memory_end = with_line (codes "memory") 9
+
+abbrev pub words_end : End
+words_end = with_line (codes "refused words") 2
+
+abbrev pub attach_end : End
+attach_end = with_line (failed_attach_drive_text 0) 4
+
+abbrev pub drive_end : End
+drive_end = with_line (codes "failed drive") 8
+
+-- good 0, bad 1, unchecked 6
+abbrev pub outcome_status : Outcome → ℕ
+outcome_status AllGood = 0
+outcome_status SomeBad = 1
+outcome_status SomeUnchecked = 6
+
+-- the fault of a list, with its place; want of memory is never one, by LoadCalls
+abbrev pub fault_end : ReadError → End
+fault_end (NotUtf8 at) = with_line (unreadable_text (codes "notutf8") at) 7
+fault_end (Malformed at) = with_line (unreadable_text (codes "malformed") at) 7
+fault_end (Doctype at) = with_line (unreadable_text (codes "doctype") at) 7
+fault_end (Cdata at) = with_line (unreadable_text (codes "cdata") at) 7
+fault_end Version = with_line (codes "unreadable version") 7
+fault_end (NoFile at) = with_line (unreadable_text (codes "nofile") at) 7
+fault_end (Twice at) = with_line (unreadable_text (codes "twice") at) 7
+fault_end (BadPath at) = with_line (unreadable_text (codes "badpath") at) 7
+fault_end (BadSize at) = with_line (unreadable_text (codes "badsize") at) 7
+fault_end (BadDigest at) = with_line (unreadable_text (codes "baddigest") at) 7
+fault_end (TooMany at) = with_line (unreadable_text (codes "toomany") at) 7
+fault_end MemoryRead = memory_end
+
+-- a list that was not loaded
+abbrev pub load_end : LoadError → End
+load_end DriveFailed = drive_end
+load_end Absent = with_line (codes "unreadable absent") 7
+load_end (TooLarge len) = with_line (unreadable_toolarge_text len) 7
+load_end (Unreadable e) = fault_end e
+load_end Memory = memory_end
+
+-- a verification that broke off
+abbrev pub broken_end : VerifyError → End
+broken_end DriveFailedThen = drive_end
+broken_end OutFailed = with_status 5
+broken_end MemoryThen = memory_end
+
+-- The calls of an end: its lines, all of them said, and the status is its own; or one of them could not be said, no call followed, and the
+-- status is 5.
+abbrev pub EndCalls : End → ℕ → List Event → Type 0
+EndCalls end result L = ((L ≡ says end.lines) × (result ≡ end.status)) ⊎ (BrokeOff end.lines L × (result ≡ 5))
+
+-- The status of an end, over bays that tell no calls too: in place of its own 5, where it has a line and the count of the output rose.
+abbrev pub EndStatus : End → ℕ → World → World → Type 0
+EndStatus end result old new = (result ≡ end.status) ⊎ ((end.lines ≢ []) × (result ≡ 5) × Rose (old.faults Output) (new.faults Output))
+
+-- nothing but this end
+pub record Ended (end : End) (result : ℕ) (old new : World) : Type 0 where
+  pub went : Went (Only Output) (EndCalls end result) old new
+  pub status : EndStatus end result old new
