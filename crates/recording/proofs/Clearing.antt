@@ -1,14 +1,14 @@
 -- What is left of the scratch files where an offload begins.
-use Rattle.std.proofs.Common.{◌≡◌, ◌≢◌, ℕ, Bool, true, false, List, [], ◌∷◌, ◌++◌, map, refl, sym, ap, ◌∙◌, subst}
+use Rattle.std.proofs.Common.{◌≡◌, ℕ, Bool, true, false, List, ◌++◌, sym, ap, ◌∙◌, subst}
 use Rattle.std.specs.Prelude.{Some, None}
 use Rattle.std.specs.FinMap.{get, insert, remove}
 use Rattle.bay_core.specs.declared.event.Event.{Event}
 use Rattle.bay_core.specs.Map.{Map, content, overwritten, moved}
 use Rattle.bay_core.specs.Paths.{journal_path, new_path, part_path}
-use Rattle.bay_core.specs.Replay.{Drive, reads, replayed}
+use Rattle.bay_core.specs.Replay.{reads, replayed}
 use Rattle.bay_core.specs.World.{World}
-use Rattle.bay_core.specs.Went.{AllOn, Only, Ran, Tried}
-use Rattle.bay_core.proofs.Maps.{insert_other, remove_here, remove_other, moved_other}
+use Rattle.bay_core.specs.Went.{Ran, Tried}
+use Rattle.bay_core.proofs.Maps.{insert_other, remove_here, moved_other}
 use Rattle.bay_core.proofs.Runs.{told_since, all_ran}
 use Rattle.crash_law.proofs.Calls.{all_ok, reads_calls}
 use Rattle.drive_journal.specs.Calls.{tidy_calls, publish_calls}

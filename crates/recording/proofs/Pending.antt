@@ -4,7 +4,6 @@ use Rattle.std.specs.Prelude.{Option, Some, None, IfSome}
 use Rattle.std.specs.List.{AllByRecursion}
 use Rattle.bay_core.specs.declared.event.Event.{Event}
 use Rattle.bay_core.specs.declared.event.Event.TheVariants.{Sync, Remove}
-use Rattle.bay_core.specs.Paths.{part_path}
 use Rattle.bay_core.specs.Replay.{Drive, reads}
 use Rattle.bay_core.specs.World.{World}
 use Rattle.bay_core.specs.Went.{AllOn, Only, Ran, Tried, sync_call}

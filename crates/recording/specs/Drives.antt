@@ -1,5 +1,5 @@
 -- An offload onto one drive, in the calls of a run.
-use Rattle.std.specs.Prelude.{◌≡◌, ℕ, suc, ◌≤◌, List, ◌++◌, length}
+use Rattle.std.specs.Prelude.{◌≡◌, ℕ, suc, ◌≤◌, List, ◌++◌}
 use Rattle.bay_core.specs.declared.event.Event.{Event}
 use Rattle.bay_core.specs.Left.{Left, IsSettled}
 use Rattle.bay_core.specs.Map.{Map}

@@ -8,6 +8,7 @@ ghost use Rattle.recording.specs.Beginning.{Begins, Cleared, Rejoins};
 
 use bay_core::{Bay, DriveFailed};
 use drive_journal::{publish, tidy};
+use offload_law::steps_are_safe;
 use path_text::PathText;
 
 /// The journal of a drive.
@@ -25,6 +26,7 @@ pub fn begin_on<B: Bay>(bay: &mut B, d: u32, journal: &[u8]) -> Result<(), Drive
     // After Ok there is no part, and no file waits for its name.
     ensures cleared { Cleared d (is_ok result) (B.world bay.old) (B.world bay.new) }
 {
+    steps_are_safe();
     tidy_and_publish(bay, d, journal)
 }
 

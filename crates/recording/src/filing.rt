@@ -12,6 +12,7 @@ ghost use Rattle.recording.specs.Filing.{RecordCalls, RecordCause, Files, Record
 use bay_core::{Bay, DriveFailed};
 use block_pool::{Pool, Slot};
 use drive_journal::{Gate, Rec, open_gate, place};
+use offload_law::steps_are_safe;
 use path_text::PathText;
 use read_back::{ReadBackError, read_back};
 
@@ -79,6 +80,7 @@ fn file_part<B: Bay>(
     ensures next { IfOk result (λ next. next ≡ record { at = gate.at + 65; index = gate.index + 1 }) }
     ensures files { Files d gate.at path.now rec.now (is_ok result) (B.world bay.old) (B.world bay.new) }
 {
+    steps_are_safe();
     place_and_open(bay, d, gate, path, rec)
 }
 

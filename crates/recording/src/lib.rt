@@ -7,6 +7,8 @@ ghost use Rattle.bay_core.specs.declared.event.Event.{Event};
 ghost use Rattle.bay_core.specs.Map.{Map};
 ghost use Rattle.recording.specs.Drives.{Copying, IsCopying, Keeps, IsFound, LeavesPrefix};
 
+use offload_law::steps_are_safe;
+
 mod beginning;
 mod filing;
 mod lines;
@@ -26,4 +28,6 @@ pub use sealing::seal_on;
 /// on the bay before.
 pub fn keeping_is_safe()
     ensures { (D : Copying) → IsCopying D → (d : ℕ) (attached : Map) (past L : List Event) → IsFound D d attached past → Keeps D d L → LeavesPrefix D d attached past L }
-{}
+{
+    steps_are_safe();
+}

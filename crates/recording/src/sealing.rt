@@ -7,6 +7,7 @@ ghost use Rattle.recording.specs.Sealing.{Seals};
 
 use bay_core::{Bay, DriveFailed};
 use drive_journal::publish;
+use offload_law::steps_are_safe;
 
 /// Seals the drive: puts the list whole under its name (docs/FORMATS.md, "Lists"). Takes no memory, and fails by the
 /// drive alone.
@@ -18,5 +19,6 @@ pub fn seal_on<B: Bay>(bay: &mut B, d: u32, list: &str, text: &[u8]) -> Result<(
     // Where the drive was ready for it, the run keeps to the steps, and after Ok the list is sealed and at rest.
     ensures seals { Seals d list.now text.now (is_ok result) (B.world bay.old) (B.world bay.new) }
 {
+    steps_are_safe();
     publish(bay, d, list, text)
 }
