@@ -1,0 +1,4 @@
+pub mod Causes
+pub mod Copied
+pub mod First
+pub mod Steps

@@ -1,0 +1,88 @@
+// Steps that end in their line.
+ghost use Rattle.std.specs.Prelude.{◌≡◌, ◌+◌, ◌^◌, ◌<◌, ◌≤◌, length, true, false, is_ok, IfOk};
+ghost use Rattle.bay_core.specs.Went.{Went};
+ghost use Rattle.block_pool.specs.Lent.{is_lent, block_at};
+ghost use Rattle.block_pool.specs.Lending.{with_block};
+ghost use Rattle.path_text.specs.Path.{is_control_path};
+ghost use Rattle.fan_copier.specs.Copying.{NoPart};
+ghost use Rattle.first_file.specs.Steps.{Aloud, AnyCalls, BeginsAloud, RecordsAloud};
+ghost use Rattle.first_file.specs.Causes.{BeginCause, LostBy, RecordCause};
+
+use crate::FirstFileError;
+use bay_core::Bay;
+use block_pool::{Pool, Slot};
+use drive_journal::{Gate, Rec};
+use path_text::{PathText, Scratch};
+use read_back::ReadBackError;
+use recording::{begin_on, begun_into, done_into, record_file};
+
+// Begins an offload of so many files on a fresh drive, and says so.
+pub(crate) fn begin_aloud<B: Bay>(
+    bay: &mut B,
+    d: u32,
+    journal: &[u8],
+    count: u32,
+    line: &mut Scratch,
+) -> Result<(), FirstFileError>
+    requires drive { d < (B.world bay.old).attached.drives }
+    requires range { length journal.now < 2 ^ 63 }
+    ensures went { Went (Aloud d) AnyCalls (B.world bay.old) (B.world bay.new) }
+    ensures cause { BeginCause d result (B.world bay.old) (B.world bay.new) }
+    ensures no_part { IfOk result (λ begun. NoPart d (B.world bay.new)) }
+    ensures begins { BeginsAloud d journal.now count (is_ok result) (B.world bay.old) (B.world bay.new) }
+{
+    match begin_on(bay, d, journal) {
+        Ok(()) => {}
+        Err(_) => return Err(FirstFileError::Drive),
+    }
+    begun_into(line, d, 0, count);
+    match bay.say(line.bytes()) {
+        Ok(()) => Ok(()),
+        Err(_) => Err(FirstFileError::Output),
+    }
+}
+
+// The error for a recording that ended so.
+fn lost_by(found: ReadBackError) -> FirstFileError
+    ensures { LostBy found result }
+{
+    match found {
+        ReadBackError::DriveFailed => FirstFileError::Drive,
+        found => FirstFileError::ReadBack { found },
+    }
+}
+
+// Records the file in the part of a drive, which is read back, and says so.
+pub(crate) fn record_aloud<B: Bay>(
+    bay: &mut B,
+    d: u32,
+    gate: Gate,
+    path: &PathText,
+    rec: &Rec,
+    count: u32,
+    pool: &mut Pool,
+    slot: &Slot,
+    line: &mut Scratch,
+) -> Result<(), FirstFileError>
+    requires drive { d < (B.world bay.old).attached.drives }
+    requires at { gate.at ≤ 67_108_864 }
+    requires index { gate.index < 262_144 }
+    requires number { rec.now.index ≡ gate.index }
+    requires size { rec.now.size < 2 ^ 48 }
+    requires card_path { is_control_path path.now ≡ false }
+    requires lent { is_lent pool.old slot.now ≡ true }
+    ensures went { Went (Aloud d) AnyCalls (B.world bay.old) (B.world bay.new) }
+    ensures cause { RecordCause d result (B.world bay.old) (B.world bay.new) }
+    ensures pool { pool.new ≡ with_block pool.old slot.now (block_at pool.new slot.now) }
+    ensures records { RecordsAloud d gate.at path.now rec.now count (is_ok result) (B.world bay.old) (B.world bay.new) }
+{
+    match record_file(bay, d, gate, path, rec, pool, slot) {
+        Ok(_) => {}
+        Err(found) => return Err(lost_by(found)),
+    }
+    done_into(line, d, rec.index + 1, count, path);
+    match bay.say(line.bytes()) {
+        Ok(()) => Ok(()),
+        Err(_) => Err(FirstFileError::Output),
+    }
+}
