@@ -6,7 +6,8 @@ use Rattle.bay_core.specs.declared.event.Event.TheVariants.{AttachDrive}
 use Rattle.bay_core.specs.Attach.{Attaches}
 use Rattle.bay_core.specs.Map.{Map}
 use Rattle.bay_core.specs.Replay.{Device, reads}
-use Rattle.bay_core.specs.Went.{Went}
+use Rattle.bay_core.specs.Went.{Went, AllOn}
+use Rattle.std.proofs.lemmas.List.{append_cancel_left}
 use Rattle.bay_core.specs.World.{World, Attached, Honest, Steady}
 use Rattle.bay_core.proofs.Rest.{attached_rest}
 use Rattle.crash_law.specs.Protocol.{Settled}
@@ -18,7 +19,7 @@ use Rattle.offload_law.specs.Stages.{Begun}
 use Rattle.recording.specs.Drives.{Copying, IsCopying, Keeps, LeavesPrefix}
 use Rattle.recording.proofs.Turns.{kept_prefix}
 use Rattle.first_file.specs.First.{fresh_offload, IsFreshFor, LeavesFirst, OffloadsFirst}
-use Rattle.first_file.specs.Steps.{Since, IsUnbegun, IsTrue, HasFirst, Reaches, BeginsAloud, CopiesFirst}
+use Rattle.first_file.specs.Steps.{OfFile, Since, IsUnbegun, IsTrue, HasFirst, Reaches, BeginsAloud, CopiesFirst}
 
 -- what holds of the drive and the card holds after calls
 pub still_true : (D : Copying) (s d : ℕ) (attached : Map) (past : List Event) {On : Device → Type 0} {P : List Event → Type 0} {old new : World} → Went On P old new → IsTrue D s d attached past old → IsTrue D s d attached past new
@@ -67,8 +68,8 @@ module _ (place : List ℕ) (s d : ℕ) (p : PlanValue) (journal : List ℕ) (pl
       told : (A B : List Event) → Some A ≡ Some B → A ≡ B
       told A B e = cc e
 
-  leaves_first : {On : Device → Type 0} {P : List Event → Type 0} {new : World} (ok : Bool) → Went On P mid new → RunsFirst s d p journal ok mid new → (m card : Map) (all : List Event) → Honest new d m all → Steady new s card → IsFreshFor p m
-      → LeavesFirst (fresh_offload p card m) place d ok old all
+  leaves_first : {P : List Event → Type 0} {new : World} (ok : Bool) → Went (OfFile s d) P mid new → RunsFirst s d p journal ok mid new → (m card : Map) (all : List Event) → Honest new d m all → Steady new s card → IsFreshFor p m
+      → LeavesFirst (fresh_offload p card m) place s d ok old all
   leaves_first ok w run m card all honest steady fresh =
       let D = fresh_offload p card m in
       let back = w.told all honest.events in
@@ -89,15 +90,17 @@ module _ (place : List ℕ) (s d : ℕ) (p : PlanValue) (journal : List ℕ) (pl
         steady = record { steady = ap (λ (x : Attached). x.steady s) (sym w.attached) ∙ steady.steady; card = ap (λ (x : Attached). x.card s) (sym w.attached) ∙ steady.card };
       } in
       let end = (run D is refl m past true_of (unbegun m card fresh past back.was)).calls all honest.events in
+      let same : back.since ≡ end.0 = append_cancel_left past back.since end.0 (sym back.is ∙ end.1) in
       record {
         before = t.before;
         since = end.0;
         was = t.was;
         is = end.1 ∙ ap (λ (l : List Event). l ++ end.0) past_is;
+        on = subst (AllOn (OfFile s d)) same back.on;
         prefix = subst (λ (l : List Event). LeavesPrefix D d m l end.0) past_is (kept_prefix D is d m past end.0 (record { settled = rest.1; start = rest.0 }) (keeps_of D d ok end.0 end.2));
         done = done_of D d ok end.0 end.2;
       }
 
-  pub offloads_first : {On : Device → Type 0} {P : List Event → Type 0} {new : World} (ok : Bool) → Went On P mid new → RunsFirst s d p journal ok mid new → OffloadsFirst place s p ok old new
+  pub offloads_first : {P : List Event → Type 0} {new : World} (ok : Bool) → Went (OfFile s d) P mid new → RunsFirst s d p journal ok mid new → OffloadsFirst place s p ok old new
   offloads_first {new = new} ok w run = λ m card all there.
-      subst (λ k. Honest new k m all → Steady new s card → IsFreshFor p m → LeavesFirst (fresh_offload p card m) place k ok old all) a.numbered.0 (leaves_first ok w run m card all)
+      subst (λ k. Honest new k m all → Steady new s card → IsFreshFor p m → LeavesFirst (fresh_offload p card m) place s k ok old all) a.numbered.0 (leaves_first ok w run m card all)

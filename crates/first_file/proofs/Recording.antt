@@ -6,9 +6,13 @@ use Rattle.std.specs.FinMap.{get}
 use Rattle.bay_core.specs.declared.event.Event.{Event}
 use Rattle.bay_core.specs.Map.{Map, content}
 use Rattle.bay_core.specs.Paths.{part_path}
-use Rattle.bay_core.specs.Replay.{Device, Drive, Clock, reads}
+use Rattle.bay_core.specs.Replay.{Device, Drive, Clock, is_on, reads}
 use Rattle.bay_core.specs.Went.{Went, Only}
 use Rattle.bay_core.specs.World.{World, Attached, Honest}
+use Rattle.bay_core.proofs.Honesty.{honest_before}
+use Rattle.fan_copier.proofs.Keeping.{same_elsewhere}
+use Rattle.first_file.specs.declared.error.FirstFileError.{FirstFileError}
+use Rattle.first_file.specs.Causes.{FilesAlone, RecordsAlone}
 use Rattle.crash_law.specs.Protocol.{Settled}
 use Rattle.crash_law.proofs.Safe.{restarts}
 use Rattle.crash_law.proofs.Staying.{moment_stays}
@@ -115,6 +119,14 @@ module _ (s d : ℕ) (p : PlanValue) (path : List ℕ) {old mid : World} (touche
           let ready = since_went asked past (IsHeld D copied.bytes) (IsWaiting D d gate path [] rec) (waiting D same (copied.card D.work.card true_of.steady) asked past) there in
           let done = records D is (counted ∙ ap (λ (q : PlanValue). length q.files) same) [] past ready in
           record { calls = λ all now. let c = done.calls all now in (c.0, c.1, reached D ok c.0 c.2) }
+
+-- on an honest drive that has the copied bytes, the recording ends by a call alone
+pub copy_alone : (s d : ℕ) (p : PlanValue) (path : List ℕ) (size : ℕ) (digests : Triple) (seconds : ℕ) {P Q : List Event → Type 0} {old mid dated new : World} (result : Result Unit FirstFileError) → IsCopied s d path size digests old mid → Went (Only Clock) P mid dated → Went (Aloud d) Q dated new
+    → RecordsAlone d (record { index = 0; size = size; triple = digests; hashed = seconds }) result dated new → FilesAlone s d p result old new
+copy_alone s d p path size digests seconds result copied asked recorded alone = λ m card all honest steady on.
+    let b = honest_before d m all recorded honest in
+    let c = (same_elsewhere d (λ x on. ap (is_on d) on) asked).back m b.0 b.1 in
+    alone m b.0 all b.1 honest.events (copied.bytes, ap (λ (x : Map). get x part_path) c.2 ∙ copied.part m c.0 c.1, copied.sized, sym copied.digests_are)
 
 -- the first of a plan's files
 pub first_of : (files : List PlannedFile) (f : PlannedFile) → 1 ≤ length files → f ≡ slice_index_or files 0 f → files ≡ f ∷ drop 1 files

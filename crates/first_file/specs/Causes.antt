@@ -1,13 +1,19 @@
 -- Why the first file is not recorded.
-use Rattle.std.specs.Prelude.{◌≡◌, ◌≢◌, ℕ, Bool, true, List, [], ◌∷◌, Result, Ok, Err}
-use Rattle.bay_core.specs.Replay.{Source, Drive, Attaching, Output}
-use Rattle.bay_core.specs.World.{World, Rose}
+use Rattle.std.specs.Prelude.{◌≡◌, ◌≢◌, ℕ, ◌<◌, Bool, true, List, [], ◌∷◌, length, Some, Result, Ok, Err}
+use Rattle.std.specs.FinMap.{get}
+use Rattle.bay_core.specs.declared.event.Event.{Event}
+use Rattle.bay_core.specs.Map.{Map, content}
+use Rattle.bay_core.specs.Paths.{part_path}
+use Rattle.bay_core.specs.Replay.{Source, Drive, Attaching, Output, reads}
+use Rattle.bay_core.specs.World.{World, Rose, Honest, Steady}
 use Rattle.copy_plan.specs.declared.file.PlannedFile.{PlannedFile}
 use Rattle.copy_plan.specs.Plan.{PlanValue}
 use Rattle.digest_set.specs.declared.triple.Triple.{Triple}
+use Rattle.drive_journal.specs.declared.record.Rec.{Rec}
 use Rattle.fan_core.specs.Flags.{has}
 use Rattle.read_back.specs.declared.back.ReadBackError.{ReadBackError}
 use Rattle.read_back.specs.declared.back.ReadBackError.TheVariants.{DriveFailed}
+use Rattle.read_back.specs.Back.{HasCopy}
 use Rattle.first_file.specs.declared.error.FirstFileError.{FirstFileError}
 use Rattle.first_file.specs.declared.error.FirstFileError.TheVariants.{Attach, Drive as DriveLost, Card, Changed, ReadBack, Output as NotSaid}
 
@@ -46,6 +52,29 @@ abbrev pub FileCause : ℕ → ℕ → PlanValue → Result Unit FirstFileError 
 FileCause s d p (Err Card) old new = Rose (old.faults (Source s)) (new.faults (Source s))
 FileCause s d p (Err (Changed listed read)) old new = IsChangedFrom p.files listed read
 FileCause s d p result old new = RecordCause d result old new
+
+-- it went well, or a call failed
+abbrev pub EndsByCall : {T : Type 0} → Result T FirstFileError → Type 0
+EndsByCall (Err (Changed listed read)) = ⊥
+EndsByCall (Err (ReadBack found)) = ⊥
+EndsByCall result = Unit {0}
+
+-- the first of these files has on the card the length with which it was planned
+abbrev pub IsFirstOn : Map → List PlannedFile → Type 0
+IsFirstOn card [] = ⊥
+IsFirstOn card (f ∷ files) = length (content card f.path) ≡ f.size
+
+-- what was recorded of an honest drive that had the recorded bytes in its part is read back
+abbrev pub RecordsAlone : ℕ → Rec → Result Unit FirstFileError → World → World → Type 0
+RecordsAlone d rec result old new = (m : Map) (before all : List Event) → Honest old d m before → new.events ≡ Some all → HasCopy rec.size rec.triple (get (reads m before d) part_path) → EndsByCall result
+
+-- a steady card that has the planned length, and an honest drive, end it by a failed call alone
+abbrev pub FilesAlone : ℕ → ℕ → PlanValue → Result Unit FirstFileError → World → World → Type 0
+FilesAlone s d p result old new = (m card : Map) (all : List Event) → Honest new d m all → Steady new s card → IsFirstOn card p.files → EndsByCall result
+
+-- so it is with the drive that is attached next
+abbrev pub FirstAlone : ℕ → PlanValue → Result Unit FirstFileError → World → World → Type 0
+FirstAlone s p result old new = old.attached.drives < new.attached.drives → FilesAlone s old.attached.drives p result old new
 
 -- each error of the whole has its cause, on the drive that is attached next
 abbrev pub FirstFileCause : ℕ → PlanValue → Result Unit FirstFileError → World → World → Type 0

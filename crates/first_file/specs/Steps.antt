@@ -1,8 +1,8 @@
 -- The steps of an offload in the calls of a run, as worlds tell them.
-use Rattle.std.specs.Prelude.{◌≡◌, ◌⊎◌, ℕ, Bool, true, false, List, [], ◌∷◌, ◌++◌, length, Some}
+use Rattle.std.specs.Prelude.{◌≡◌, ◌≢◌, ◌⊎◌, ℕ, ◌≤◌, Bool, true, false, List, [], ◌∷◌, ◌++◌, length, Some}
 use Rattle.bay_core.specs.declared.event.Event.{Event}
 use Rattle.bay_core.specs.Map.{Map}
-use Rattle.bay_core.specs.Replay.{Device, Source, Drive, Picker, Clock, Output, reads}
+use Rattle.bay_core.specs.Replay.{Device, Source, Drive, Picker, Clock, Output, Attaching, reads}
 use Rattle.bay_core.specs.World.{World, Steady}
 use Rattle.crash_law.specs.Protocol.{Settled}
 use Rattle.copy_plan.specs.Plan.{PlanValue}
@@ -23,6 +23,11 @@ Aloud d x = (x ≡ Drive d) ⊎ (x ≡ Output)
 -- a drive and the output, and what a file that is copied to it comes from: a card, the picker and the clock
 abbrev pub OfFile : ℕ → ℕ → Device → Type 0
 OfFile s d x = Aloud d x ⊎ (x ≡ Source s) ⊎ (x ≡ Picker) ⊎ (x ≡ Clock)
+
+-- no count rises but of these devices and of attaching
+pub record CountsOf (On : Device → Type 0) (old new : World) : Type 0 where
+  pub later : (x : Device) → old.faults x ≤ new.faults x
+  pub others : (x : Device) → x ≢ Attaching → (On x → ⊥) → new.faults x ≡ old.faults x
 
 -- where a world tells its calls, they are these of before, and then such ones
 pub record Since (past : List Event) (P : List Event → Type 0) (w : World) : Type 0 where

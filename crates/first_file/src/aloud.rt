@@ -6,7 +6,7 @@ ghost use Rattle.block_pool.specs.Lending.{with_block};
 ghost use Rattle.path_text.specs.Path.{is_control_path};
 ghost use Rattle.fan_copier.specs.Copying.{NoPart};
 ghost use Rattle.first_file.specs.Steps.{Aloud, AnyCalls, BeginsAloud, RecordsAloud};
-ghost use Rattle.first_file.specs.Causes.{BeginCause, LostBy, RecordCause};
+ghost use Rattle.first_file.specs.Causes.{BeginCause, LostBy, RecordCause, RecordsAlone};
 
 use crate::FirstFileError;
 use bay_core::Bay;
@@ -16,8 +16,9 @@ use path_text::{PathText, Scratch};
 use read_back::ReadBackError;
 use recording::{begin_on, begun_into, done_into, record_file};
 
-// Begins an offload of so many files on a fresh drive, and says so.
-pub(crate) fn begin_aloud<B: Bay>(
+/// Begins an offload of `count` files on a fresh drive, and says so (docs/FORMATS.md, "The journal", "Lines"). `journal` is
+/// the code of its plan and a closed gate. Ends at the first call that fails. Takes no memory.
+pub fn begin_aloud<B: Bay>(
     bay: &mut B,
     d: u32,
     journal: &[u8],
@@ -29,6 +30,7 @@ pub(crate) fn begin_aloud<B: Bay>(
     ensures went { Went (Aloud d) AnyCalls (B.world bay.old) (B.world bay.new) }
     ensures cause { BeginCause d result (B.world bay.old) (B.world bay.new) }
     ensures no_part { IfOk result (λ begun. NoPart d (B.world bay.new)) }
+    // Where the drive was ready for it, the run keeps to the steps, and after Ok the offload is begun, at rest and announced.
     ensures begins { BeginsAloud d journal.now count (is_ok result) (B.world bay.old) (B.world bay.new) }
 {
     match begin_on(bay, d, journal) {
@@ -52,8 +54,10 @@ fn lost_by(found: ReadBackError) -> FirstFileError
     }
 }
 
-// Records the file in the part of a drive, which is read back, and says so.
-pub(crate) fn record_aloud<B: Bay>(
+/// Records the file in the part of a drive, which is settled and read back first, and says so (docs/FORMATS.md, "The
+/// journal", "Lines"). Ends at the first call that fails, or where what was read back is not what was recorded. Takes no
+/// memory.
+pub fn record_aloud<B: Bay>(
     bay: &mut B,
     d: u32,
     gate: Gate,
@@ -74,6 +78,9 @@ pub(crate) fn record_aloud<B: Bay>(
     ensures went { Went (Aloud d) AnyCalls (B.world bay.old) (B.world bay.new) }
     ensures cause { RecordCause d result (B.world bay.old) (B.world bay.new) }
     ensures pool { pool.new ≡ with_block pool.old slot.now (block_at pool.new slot.now) }
+    // On an honest drive that has the recorded bytes in its part, it fails by a call alone.
+    ensures honest { RecordsAlone d rec.now result (B.world bay.old) (B.world bay.new) }
+    // Where the drive waits for it, the run keeps to the steps, and after Ok the file is recorded, at rest and announced.
     ensures records { RecordsAloud d gate.at path.now rec.now count (is_ok result) (B.world bay.old) (B.world bay.new) }
 {
     match record_file(bay, d, gate, path, rec, pool, slot) {

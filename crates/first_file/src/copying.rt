@@ -1,13 +1,15 @@
 // A file is copied to one drive.
-ghost use Rattle.std.specs.Prelude.{◌≡◌, ◌^◌, ◌<◌, ◌≤◌, ◌+◌, ℕ, [], true, IfOk};
+ghost use Rattle.std.specs.Prelude.{◌≡◌, ◌^◌, ◌<◌, ◌≤◌, ◌+◌, ℕ, [], true, length, IfOk};
+ghost use Rattle.bay_core.specs.Map.{Map, content};
 ghost use Rattle.bay_core.specs.Went.{Went};
+ghost use Rattle.bay_core.specs.World.{Steady};
 ghost use Rattle.block_pool.specs.Lent.{is_lent, free_in};
 ghost use Rattle.fan_core.specs.Flags.{has};
 ghost use Rattle.fan_copier.specs.Copying.{card_of, size_of, live_of, slots_at_most, slots_of, Copying, NoPart};
 ghost use Rattle.fan_copier.specs.Ring.{taken, IsOut, Owns, KeepsPool};
 ghost use Rattle.fan_copier.specs.Turning.{Touches, AreCopyCalls};
 ghost use Rattle.first_file.specs.Copied.{IsCopied, SparesPool, just};
-ghost use Rattle.first_file.specs.Causes.{CopyCause};
+ghost use Rattle.first_file.specs.Causes.{CopyCause, EndsByCall};
 
 use crate::FirstFileError;
 use bay_core::Bay;
@@ -19,10 +21,12 @@ use fan_core::Drives;
 use path_text::PathText;
 
 /// The blocks that a copy may hold.
-pub(crate) const SLOTS: u32 = 16;
+const SLOTS: u32 = 16;
 
-// Copies a file of the card to the part of a drive, which has none. The answer is the digests of the file.
-pub(crate) fn copy_file<B: Bay>(
+/// Copies a file of card `source` to the part of a drive that has none, turn by turn. The answer is the digests of the file.
+/// Ends at the first call that fails, or where the card's file has another length. At most 16 blocks of the pool are held, and
+/// are given back; `slot` is another one. Takes no memory.
+pub fn copy_file<B: Bay>(
     bay: &mut B,
     source: u32,
     d: u32,
@@ -40,6 +44,8 @@ pub(crate) fn copy_file<B: Bay>(
     ensures touches { Went (Touches source (just d)) (AreCopyCalls source file.now.path) (B.world bay.old) (B.world bay.new) }
     ensures copied { IfOk result (λ triple. IsCopied source d file.now.path file.now.size triple (B.world bay.old) (B.world bay.new)) }
     ensures pool { SparesPool slot.now pool.old pool.new }
+    // A steady card's file with the planned length is copied, or a call fails.
+    ensures steady { (m : Map) → Steady (B.world bay.old) source m → length (content m file.now.path) ≡ file.now.size → EndsByCall result }
     ensures cause { CopyCause source (just d) file.now.size result (B.world bay.old) (B.world bay.new) }
 {
     let drives = Drives::none().with(d);
@@ -67,6 +73,7 @@ fn copy_to_end<B: Bay>(
     ensures touches { Went (Touches (card_of copy.old) (live_of copy.old)) (AreCopyCalls (card_of copy.old) path.now) (B.world bay.old) (B.world bay.new) }
     ensures copied { IfOk result (λ triple. (d : ℕ) → has (live_of copy.old) d ≡ true → IsCopied (card_of copy.old) d path.now (size_of copy.old) triple (B.world bay.old) (B.world bay.new)) }
     ensures pool { KeepsPool slot.now (slots_of copy.old) (slots_of copy.new) pool.old pool.new }
+    ensures steady { (m : Map) → Steady (B.world bay.old) (card_of copy.old) m → length (content m path.now) ≡ size_of copy.old → EndsByCall result }
     ensures cause { CopyCause (card_of copy.old) (live_of copy.old) (size_of copy.old) result (B.world bay.old) (B.world bay.new) }
 {
     loop {

@@ -4,10 +4,10 @@ ghost use Rattle.bay_core.specs.Went.{Went};
 ghost use Rattle.block_pool.specs.Lent.{is_lent, free_in};
 ghost use Rattle.copy_plan.specs.Fields.{plan_code};
 ghost use Rattle.fan_copier.specs.Copying.{NoPart};
-ghost use Rattle.first_file.specs.Causes.{FileCause, FirstFileCause};
+ghost use Rattle.first_file.specs.Causes.{FileCause, FilesAlone, FirstAlone, FirstFileCause};
 ghost use Rattle.first_file.specs.Copied.{SparesPool, GivesBack};
 ghost use Rattle.first_file.specs.First.{OffloadsFirst};
-ghost use Rattle.first_file.specs.Steps.{OfFile, AnyCalls, CopiesFirst};
+ghost use Rattle.first_file.specs.Steps.{OfFile, AnyCalls, CopiesFirst, CountsOf};
 
 use crate::FirstFileError;
 use crate::aloud::{begin_aloud, record_aloud};
@@ -37,6 +37,9 @@ pub fn offload_first_file<B: Bay>(
     requires free { 17 ≤ free_in pool.old.lent }
     // Each error has its cause.
     ensures cause { FirstFileCause source plan.now result (B.world bay.old) (B.world bay.new) }
+    // On an honest drive, from a steady card that has the file with the planned length, it fails by a call alone.
+    ensures alone { FirstAlone source plan.now result (B.world bay.old) (B.world bay.new) }
+    ensures counts { CountsOf (OfFile source (B.world bay.old).attached.drives) (B.world bay.old) (B.world bay.new) }
     ensures pool { GivesBack pool.old pool.new }
     // Wherever it stops, the drive is left with a prefix of the offload's steps that holds what was announced.
     ensures offloads { OffloadsFirst place.now source plan.now (is_ok result) (B.world bay.old) (B.world bay.new) }
@@ -79,6 +82,7 @@ fn copy_first<B: Bay>(
     requires no_part { NoPart d (B.world bay.old) }
     ensures went { Went (OfFile source d) AnyCalls (B.world bay.old) (B.world bay.new) }
     ensures cause { FileCause source d plan.now result (B.world bay.old) (B.world bay.new) }
+    ensures alone { FilesAlone source d plan.now result (B.world bay.old) (B.world bay.new) }
     ensures pool { SparesPool slot.now pool.old pool.new }
     ensures copies { CopiesFirst source d plan.now (is_ok result) (B.world bay.old) (B.world bay.new) }
 {

@@ -7,5 +7,7 @@ mod copying;
 mod error;
 mod first;
 
+pub use aloud::{begin_aloud, record_aloud};
+pub use copying::copy_file;
 pub use error::FirstFileError;
 pub use first::offload_first_file;

@@ -1,13 +1,14 @@
 use Rattle.std.proofs.Common.{true, false, ◌∙◌}
 use Rattle.first_file.proofs.Telling.{on_drive, then_said}
 use Rattle.first_file.proofs.Saying.{record_failed, record_said, said_as}
-use Rattle.first_file.proofs.Causing.{lost_cause}
+use Rattle.first_file.proofs.Causing.{lost_cause, lost_alone}
 use Rattle.first_file.proofs.aloud.record_aloud.Goals as goal
 
 pub returns-in-Err : goal.returns-in-Err
 returns-in-Err g c = record {
   went = on_drive _ c.in-Err.ensures.went;
   cause = lost_cause _ _ _ _ _ c.lost_by.ensures c.in-Err.ensures.cause;
+  honest = lost_alone _ _ _ _ _ _ c.lost_by.ensures c.in-Err.ensures.honest;
   pool = c.in-Err.ensures.pool;
   records = record_failed _ _ _ _ _ c.in-Err.ensures.went c.in-Err.ensures.records;
 }

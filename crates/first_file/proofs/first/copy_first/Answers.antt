@@ -4,7 +4,7 @@ use Rattle.copy_plan.specs.declared.file.PlannedFile.{PlannedFile}
 use Rattle.path_text.specs.Moment.{last_moment}
 use Rattle.copy_plan.proofs.Bounds.{code_most}
 use Rattle.first_file.specs.Steps.{CopiesFirst}
-use Rattle.first_file.proofs.Recording.{copy_went, all_went, copy_failed, copy_recorded, first_of, not_ok}
+use Rattle.first_file.proofs.Recording.{copy_went, all_went, copy_alone, copy_failed, copy_recorded, first_of, not_ok}
 use Rattle.first_file.proofs.first.copy_first.Goals as goal
 
 pub returns-in_err-triple-clause-went : goal.returns-in_err-triple-clause-went
@@ -30,3 +30,7 @@ returns-clause-copies g c =
     let early : c.in-Some.moment ≤ last_moment = let low = at.0 in let is = at.1 in omega (arith, low, is) in
     let counted = ap (λ (l : List PlannedFile). length l) c.files-2.ensures.same in
     copy_recorded _ _ _ _ c.in_ok-triple.ensures.touches _ _ c.in_ok-triple.ensures.copied f _ first refl refl _ c.requires.gate.0 _ early _ counted _ c.moment.ensures.called.went c.record_aloud.ensures.records
+
+pub returns-clause-alone : goal.returns-clause-alone
+returns-clause-alone g c =
+    copy_alone _ _ c.args.plan.now _ _ _ c.in-Some.moment c.record_aloud.result c.in_ok-triple.ensures.copied c.moment.ensures.called.went c.record_aloud.ensures.went c.record_aloud.ensures.honest
