@@ -1,5 +1,5 @@
 -- Why the first file is not recorded.
-use Rattle.std.specs.Prelude.{◌≡◌, ◌≢◌, ℕ, ◌<◌, Bool, true, List, [], ◌∷◌, length, Some, Result, Ok, Err}
+use Rattle.std.specs.Prelude.{◌≡◌, ◌≢◌, ℕ, ◌+◌, ◌<◌, Bool, true, List, [], ◌∷◌, length, Some, Result, Ok, Err}
 use Rattle.std.specs.FinMap.{get}
 use Rattle.bay_core.specs.declared.event.Event.{Event}
 use Rattle.bay_core.specs.Map.{Map, content}
@@ -52,6 +52,11 @@ abbrev pub FileCause : ℕ → ℕ → PlanValue → Result Unit FirstFileError 
 FileCause s d p (Err Card) old new = Rose (old.faults (Source s)) (new.faults (Source s))
 FileCause s d p (Err (Changed listed read)) old new = IsChangedFrom p.files listed read
 FileCause s d p result old new = RecordCause d result old new
+
+-- one drive more is attached, but where just that failed
+abbrev pub AttachesOne : Result Unit FirstFileError → World → World → Type 0
+AttachesOne (Err Attach) old new = new.attached ≡ old.attached
+AttachesOne result old new = new.attached.drives ≡ old.attached.drives + 1
 
 -- it went well, or a call failed
 abbrev pub EndsByCall : {T : Type 0} → Result T FirstFileError → Type 0

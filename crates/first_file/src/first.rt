@@ -4,7 +4,7 @@ ghost use Rattle.bay_core.specs.Went.{Went};
 ghost use Rattle.block_pool.specs.Lent.{is_lent, free_in};
 ghost use Rattle.copy_plan.specs.Fields.{plan_code};
 ghost use Rattle.fan_copier.specs.Copying.{NoPart};
-ghost use Rattle.first_file.specs.Causes.{FileCause, FilesAlone, FirstAlone, FirstFileCause};
+ghost use Rattle.first_file.specs.Causes.{AttachesOne, FileCause, FilesAlone, FirstAlone, FirstFileCause};
 ghost use Rattle.first_file.specs.Copied.{SparesPool, GivesBack};
 ghost use Rattle.first_file.specs.First.{OffloadsFirst};
 ghost use Rattle.first_file.specs.Steps.{OfFile, AnyCalls, CopiesFirst, CountsOf};
@@ -37,6 +37,7 @@ pub fn offload_first_file<B: Bay>(
     requires free { 17 ≤ free_in pool.old.lent }
     // Each error has its cause.
     ensures cause { FirstFileCause source plan.now result (B.world bay.old) (B.world bay.new) }
+    ensures attached { AttachesOne result (B.world bay.old) (B.world bay.new) }
     // On an honest drive, from a steady card that has the file with the planned length, it fails by a call alone.
     ensures alone { FirstAlone source plan.now result (B.world bay.old) (B.world bay.new) }
     ensures counts { CountsOf (OfFile source (B.world bay.old).attached.drives) (B.world bay.old) (B.world bay.new) }
