@@ -16,8 +16,7 @@ use Rattle.copy_plan.specs.Plan.{PlanValue, IsPlan, list_of}
 use Rattle.std.proofs.lemmas.Bool.{false≢true}
 use Rattle.std.specs.FinMap.{get}
 use Rattle.offload_law.specs.Stages.{Begun}
-use Rattle.recording.specs.Drives.{Copying, IsCopying, Keeps, LeavesPrefix}
-use Rattle.recording.proofs.Turns.{kept_prefix}
+use Rattle.recording.specs.Drives.{Copying, IsCopying, Keeps, IsFound, LeavesPrefix}
 use Rattle.first_file.specs.First.{fresh_offload, IsFreshFor, LeavesFirst, OffloadsFirst}
 use Rattle.first_file.specs.Steps.{OfFile, Since, IsUnbegun, IsTrue, HasFirst, Reaches, BeginsAloud, CopiesFirst}
 
@@ -56,7 +55,11 @@ done_of : (D : Copying) (d : ℕ) (ok : Bool) (L : List Event) → Reaches D d o
 done_of D d true L at went = at
 done_of D d false L at went = absurd (false≢true went)
 
-module _ (place : List ℕ) (s d : ℕ) (p : PlanValue) (journal : List ℕ) (plan : IsPlan p) (journal_is : journal ≡ plan_code p ++ 0 ∷ []) {old mid : World} (a : Attaches place (Ok d) old mid) where
+-- what a run that keeps to the steps leaves
+abbrev pub KeepingIsSafe : Type 0
+KeepingIsSafe = (D : Copying) → IsCopying D → (d : ℕ) (attached : Map) (past L : List Event) → IsFound D d attached past → Keeps D d L → LeavesPrefix D d attached past L
+
+module _ (safe : KeepingIsSafe) (place : List ℕ) (s d : ℕ) (p : PlanValue) (journal : List ℕ) (plan : IsPlan p) (journal_is : journal ≡ plan_code p ++ 0 ∷ []) {old mid : World} (a : Attaches place (Ok d) old mid) where
   -- the drive is as it was attached
   unbegun : (m card : Map) → IsFreshFor p m → (past : List Event) → mid.events ≡ Some past → Since past (IsUnbegun (fresh_offload p card m) d journal) mid
   unbegun m card fresh past was = record {
@@ -97,7 +100,7 @@ module _ (place : List ℕ) (s d : ℕ) (p : PlanValue) (journal : List ℕ) (pl
         was = t.was;
         is = end.1 ∙ ap (λ (l : List Event). l ++ end.0) past_is;
         on = subst (AllOn (OfFile s d)) same back.on;
-        prefix = subst (λ (l : List Event). LeavesPrefix D d m l end.0) past_is (kept_prefix D is d m past end.0 (record { settled = rest.1; start = rest.0 }) (keeps_of D d ok end.0 end.2));
+        prefix = subst (λ (l : List Event). LeavesPrefix D d m l end.0) past_is (safe D is d m past end.0 (record { settled = rest.1; start = rest.0 }) (keeps_of D d ok end.0 end.2));
         done = done_of D d ok end.0 end.2;
       }
 

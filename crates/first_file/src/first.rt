@@ -17,6 +17,7 @@ use block_pool::{Pool, Slot};
 use copy_plan::Plan;
 use drive_journal::{Gate, Rec};
 use path_text::{Moment, Scratch};
+use recording::keeping_is_safe;
 
 /// Attaches the drive at a place, begins an offload by this plan on it, says so, copies the first file of the plan from card
 /// `source` to it, records it once it was read back, and says so (docs/FORMATS.md, "The journal", "Lines"). `journal` is
@@ -45,6 +46,7 @@ pub fn offload_first_file<B: Bay>(
     // Wherever it stops, the drive is left with a prefix of the offload's steps that holds what was announced.
     ensures offloads { OffloadsFirst place.now source plan.now (is_ok result) (B.world bay.old) (B.world bay.new) }
 {
+    keeping_is_safe();
     let d = match bay.attach_drive(place) {
         Ok(d) => d,
         Err(_) => return Err(FirstFileError::Attach),
