@@ -1,6 +1,6 @@
 -- The inventory of a card by its one call.
 use Rattle.std.proofs.Common.{◌≡◌, ℕ, Bool, true, List, [], ◌∷◌, length, map, refl, sym, ◌∙◌, subst, inl, inr}
-use Rattle.std.specs.Prelude.{Option, Some, None, option_map, Result, Ok, Err, IfOk, Contains, bytes_eq}
+use Rattle.std.specs.Prelude.{Option, Some, None, option_map, Result, Ok, Err, Contains, bytes_eq}
 use Rattle.std.specs.List.{All, IsDistinct}
 use Rattle.std.specs.Map.{lookup}
 use Rattle.std.specs.FinMap.{get}
@@ -103,7 +103,7 @@ found_from field listed q n is =
     (from.0, from.1, record { path = λ i. (from.2 i).0; value = λ i. (from.2 i).1 })
 
 -- a listed file of a steady card is one of the card, with its size and its date
-listed_file : (m : Map) (dates : Dates) (listed : List FileInfo) → Lists m dates listed → AllDated m dates → (f : FileInfo) → Contains listed f → IsFileOf m dates (planned f)
+pub listed_file : (m : Map) (dates : Dates) (listed : List FileInfo) → Lists m dates listed → AllDated m dates → (f : FileInfo) → Contains listed f → IsFileOf m dates (planned f)
 listed_file m dates listed lists known f in_it = record {
   size = size;
   date =
@@ -121,7 +121,7 @@ listed_file m dates listed lists known f in_it = record {
     length_of (Some bytes) is = (bytes, refl)
 
 -- and each file of the card is listed
-file_listed : (m : Map) (dates : Dates) (listed : List FileInfo) → Lists m dates listed → (p : PlannedFile) → IsFileOf m dates p → Contains (map planned listed) p
+pub file_listed : (m : Map) (dates : Dates) (listed : List FileInfo) → Lists m dates listed → (p : PlannedFile) → IsFileOf m dates p → Contains (map planned listed) p
 file_listed m dates listed lists p is =
     let found = found_from (λ g. g.size) listed p.path p.size (lists.same p.path ∙ is.size) in
     let dated = lists.dated p.path p.modified is.date in
@@ -141,7 +141,3 @@ inventory_of_card m dates listed files lists known is = record {
     (λ one. Contains-permutation (map planned listed) files p is.arranged.same (file_listed m dates listed lists p one)),
   );
 }
-
-pub steady_gives : (m : Map) (dates : Dates) (listed : List FileInfo) (r : Result (List PlannedFile) InventoryError) → Lists m dates listed → AllDated m dates → ListingGives listed r → IfOk r (IsInventoryOfCard m dates)
-steady_gives m dates listed (Ok files) lists known gives = inventory_of_card m dates listed files lists known gives
-steady_gives m dates listed (Err e) lists known gives = tt

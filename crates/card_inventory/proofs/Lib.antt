@@ -1,2 +1,7 @@
 pub mod Listings
 pub mod Cards
+pub mod Members
+pub mod Arrangements
+pub mod Building
+pub mod OneAnswer
+pub mod OneInventory

@@ -14,7 +14,7 @@ use Rattle.copy_plan.specs.Build.{IsArranged, BuildGives}
 use Rattle.copy_plan.proofs.Arranged.{parts_at}
 use Rattle.card_inventory.specs.declared.error.InventoryError.{InventoryError}
 use Rattle.card_inventory.specs.declared.error.InventoryError.TheVariants.{SourceFailed, EmptyCard, TooManyFiles, BadPath, BadDate, TooManyBytes, Control, TooBig, Clash, Memory}
-use Rattle.card_inventory.specs.Listed.{planned, IsGood, IsFew, IsFault, IsFirstFault, IsBuiltNot, FileFails, FilesFail, ListingGives, refusal_by}
+use Rattle.card_inventory.specs.Listed.{planned, IsGood, IsFew, IsFault, IsFirstFault, BuildRefuses, FileFails, FilesFail, ListingGives, refusal_by}
 
 -- these files were read, each of them good
 pub record AreRead (done : List FileInfo) (plan : List PlannedFile) : Type 0 where
@@ -101,7 +101,7 @@ none_listed (f ∷ listed) arranged order empty =
 arranged_count : (listed : List FileInfo) (arranged : List PlannedFile) → IsArranged (map planned listed) arranged → length arranged ≡ length listed
 arranged_count listed arranged order = length_permutation (map planned listed) arranged order.same ∙ simp (length-map)
 
-not_built : (listed : List FileInfo) (e : BuildError) → IsBuilt listed (Err e) → IsBuiltNot listed e
+not_built : (listed : List FileInfo) (e : BuildError) → IsBuilt listed (Err e) → BuildRefuses listed e
 not_built listed e built = record { good = built.good; arranged = built.arranged; order = built.order; refused = built.gives }
 
 built_refusal : (listed : List FileInfo) (e : BuildError) → IsBuilt listed (Err e) → ListingGives listed (Err (refusal_by e))

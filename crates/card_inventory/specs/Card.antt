@@ -1,5 +1,5 @@
 -- The inventory of a card: what the listing of the card gave, and what a steady card has.
-use Rattle.std.specs.Prelude.{◌≡◌, ◌⊎◌, ℕ, ◌↔◌, true, false, List, [], ◌∷◌, length, Contains, Some, None, option_map, Result, Err}
+use Rattle.std.specs.Prelude.{◌≡◌, ◌⊎◌, ℕ, ◌↔◌, true, false, List, [], ◌∷◌, length, Contains, Some, None, option_map, Result, Ok, Err}
 use Rattle.std.specs.FinMap.{get}
 use Rattle.bay_core.specs.declared.event.Event.{Event}
 use Rattle.bay_core.specs.declared.event.Event.TheVariants.{SourceList}
@@ -23,6 +23,13 @@ pub record IsFileOf (m : Map) (dates : Dates) (f : PlannedFile) : Type 0 where
 pub record IsInventoryOfCard (m : Map) (dates : Dates) (files : List PlannedFile) : Type 0 where
   pub whole : IsInventory files
   pub just : (f : PlannedFile) → Contains files f ↔ IsFileOf m dates f
+
+-- the answer for a card with these files and dates: its inventory, and a refusal only where it has none
+abbrev pub SteadyGives : Map → Dates → Result (List PlannedFile) InventoryError → Type 0
+SteadyGives m dates (Ok files) = IsInventoryOfCard m dates files
+SteadyGives m dates (Err SourceFailed) = Unit {0}
+SteadyGives m dates (Err Memory) = Unit {0}
+SteadyGives m dates (Err e) = (files : List PlannedFile) → IsInventoryOfCard m dates files → ⊥
 
 -- card s was listed, and nothing else was called; a steady card gave a listing of its files
 pub record IsListed (s : ℕ) (listed : List FileInfo) (old new : World) : Type 0 where

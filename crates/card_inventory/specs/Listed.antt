@@ -50,8 +50,8 @@ abbrev pub FilesFail : List FileInfo → InventoryError → Type 0
 FilesFail listed Memory = Unit {0}
 FilesFail listed e = IsFirstFault listed e
 
--- each file is good, and in byte order they are refused as an inventory
-pub record IsBuiltNot (listed : List FileInfo) (e : BuildError) : Type 0 where
+-- each file is good, and building an inventory of them is refused so
+pub record BuildRefuses (listed : List FileInfo) (e : BuildError) : Type 0 where
   pub good : All IsGood listed
   pub arranged : List PlannedFile
   pub order : IsArranged (map planned listed) arranged
@@ -78,8 +78,8 @@ ListingGives listed (Err EmptyCard) = listed ≡ []
 ListingGives listed (Err (TooManyFiles count)) = (count ≡ length listed) × (most_files < count)
 ListingGives listed (Err (BadPath index cause)) = IsFew listed × IsFirstFault listed (BadPath index cause)
 ListingGives listed (Err (BadDate path)) = IsFew listed × IsFirstFault listed (BadDate path)
-ListingGives listed (Err (TooManyBytes sum)) = IsBuiltNot listed (ManyBytes sum)
-ListingGives listed (Err (Control path)) = IsBuiltNot listed (OwnPath path)
-ListingGives listed (Err (TooBig path)) = IsBuiltNot listed (BigFile path)
-ListingGives listed (Err (Clash first second)) = IsBuiltNot listed (TwoPaths first second)
+ListingGives listed (Err (TooManyBytes sum)) = BuildRefuses listed (ManyBytes sum)
+ListingGives listed (Err (Control path)) = BuildRefuses listed (OwnPath path)
+ListingGives listed (Err (TooBig path)) = BuildRefuses listed (BigFile path)
+ListingGives listed (Err (Clash first second)) = BuildRefuses listed (TwoPaths first second)
 ListingGives listed (Err Memory) = Unit {0}

@@ -3,10 +3,12 @@
 
 mod card;
 mod error;
+mod laws;
 mod listing;
 #[cfg(test)]
 mod tests;
 
 pub use card::inventory;
 pub use error::InventoryError;
+pub use laws::{one_answer, one_inventory};
 pub use listing::inventory_of;

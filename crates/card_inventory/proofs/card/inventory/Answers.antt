@@ -1,5 +1,6 @@
 -- The listing is the one call; what it got is what the bay says of it.
-use Rattle.card_inventory.proofs.Cards.{listing_gives, unlisted, none_listed, one_untouched, none_untouched, failed_untouched, steady_gives}
+use Rattle.card_inventory.proofs.Cards.{listing_gives, unlisted, none_listed, one_untouched, none_untouched, failed_untouched}
+use Rattle.card_inventory.proofs.OneInventory.{steady_gives}
 use Rattle.card_inventory.proofs.card.inventory.Goals as goal
 
 pub returns-in-Ok-clause-answer : goal.returns-in-Ok-clause-answer
