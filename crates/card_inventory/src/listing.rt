@@ -1,5 +1,5 @@
 //! The inventory of a listing.
-ghost use Rattle.std.specs.Prelude.{◌≡◌, map, IfOk, IfErr, OnOk, MatchResult};
+ghost use Rattle.std.specs.Prelude.{◌≡◌, map, IfOk, IfErr, OnOk};
 ghost use Rattle.std.specs.List.{All};
 ghost use Rattle.card_inventory.specs.Listed.{planned, IsGood, FileFails, FilesFail, ListingGives};
 
