@@ -1,0 +1,11 @@
+//! Sealing a drive: the list of an offload is written in parts, read again, and gets its name.
+#![tactic(auto)]
+
+mod drafting;
+mod error;
+mod parts;
+mod reading;
+mod sealing;
+
+pub use error::SealError;
+pub use sealing::seal;
