@@ -11,3 +11,4 @@ pub mod Runs
 pub mod Fields
 pub mod Said
 pub mod Clear
+pub mod Notes

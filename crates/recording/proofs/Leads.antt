@@ -1,9 +1,9 @@
 -- Where the calls of each step lead a drive.
-use Rattle.std.proofs.Common.{◌≡◌, ◌≢◌, ◌⊎◌, inl, inr, ℕ, suc, ◌+◌, ◌≤◌, true, false, List, [], ◌∷◌, ◌++◌, length, drop, Option, Some, None, refl, sym, ap, ◌∙◌, subst, arith, append-nil, length-append, zero-le}
+use Rattle.std.proofs.Common.{◌≡◌, ◌≢◌, inl, inr, ℕ, suc, ◌+◌, ◌≤◌, true, false, List, [], ◌∷◌, ◌++◌, length, drop, Option, Some, None, refl, sym, ap, ◌∙◌, subst, arith, append-nil, length-append, zero-le}
 use Rattle.std.specs.Prelude.{unwrap_or, is_some}
 use Rattle.std.specs.FinMap.{get, insert}
 use Rattle.std.proofs.lemmas.List.{drop_all}
-use Rattle.bay_core.specs.declared.event.Event.TheVariants.{Write, Sync, Rename}
+use Rattle.bay_core.specs.declared.event.Event.TheVariants.{Write, Sync}
 use Rattle.bay_core.specs.Map.{Map, content, overwritten}
 use Rattle.bay_core.specs.Paths.{journal_path, new_path, part_path}
 use Rattle.bay_core.specs.Replay.{Drive, replayed}
@@ -11,7 +11,6 @@ use Rattle.bay_core.specs.Went.{AllOn, Only}
 use Rattle.bay_core.proofs.Maps.{insert_here, insert_other}
 use Rattle.crash_law.specs.Protocol.{State, Settled, Preparing, Committing, reached, MayPrepare, prepares, flushes, commits, Leads, read_after}
 use Rattle.crash_law.proofs.Calls.{AreCalls, all_ok, on_read}
-use Rattle.path_text.specs.Moment.{last_moment}
 use Rattle.copy_plan.specs.declared.file.PlannedFile.{PlannedFile}
 use Rattle.copy_plan.specs.Fields.{plan_code}
 use Rattle.copy_plan.specs.Plan.{IsPlan, list_of}
@@ -22,9 +21,8 @@ use Rattle.drive_journal.specs.Record.{closed_record}
 use Rattle.drive_journal.proofs.Entries.{records_none}
 use Rattle.drive_journal.proofs.Placing.{placed}
 use Rattle.drive_journal.proofs.Records.{length-record}
-use Rattle.offload_law.specs.Sealing.{plan_list_text}
-use Rattle.offload_law.specs.Stages.{Offload, Stage, Fresh, Begun, Sealed, HasRecords, IsTrueRecord, card_bytes, progress}
-use Rattle.offload_law.specs.Steps.{IsNext, IsFree, IsBehindGate, IsDrafted, IsStaged, publishes, opens, seals, offload}
+use Rattle.offload_law.specs.Stages.{Offload, Stage, Fresh, Begun, HasRecords, IsTrueRecord, card_bytes, progress}
+use Rattle.offload_law.specs.Steps.{IsNext, IsFree, IsDrafted, IsStaged, publishes, opens, offload}
 use Rattle.offload_law.proofs.Plans.{not_journal, not_scratch, not_new, list_free, file_free, file_plannable}
 use Rattle.offload_law.proofs.Recorded.{true_record}
 
@@ -34,9 +32,6 @@ new_not_part is = let long = ap (λ (l : List ℕ). length l) is in absurd (omeg
 
 pub begin_are : (d : ℕ) (bytes : List ℕ) → AreCalls (tidy_calls d None false ++ publish_calls d journal_path bytes)
 begin_are d bytes = (refl, (refl, (refl, (refl, (refl, (refl, tt))))))
-
-pub publish_are : (d : ℕ) (to bytes : List ℕ) → AreCalls (publish_calls d to bytes)
-publish_are d to bytes = (refl, (refl, (refl, (refl, tt))))
 
 pub record_are : (d gate : ℕ) (path piece : List ℕ) → AreCalls (place_calls d gate path piece ++ open_calls d gate)
 record_are d gate path piece = (refl, (refl, (refl, (refl, (refl, tt)))))
@@ -115,23 +110,6 @@ module _ (d : ℕ) (o : Offload) (plan : IsPlan o.plan) (base : Map) (told : ℕ
         };
         no_list = waits_alone d m bytes no_new (list_of o.plan) (not_new (list_of o.plan) (list_free o.plan plan)) ∙ no_list;
       }
-
-  -- the list is published whole, where all files are recorded
-  pub list_leads : (m : Map) (x : State (offload d o base)) (recs : List Rec) (finish : ℕ) → MayPrepare x → reached x ≡ Begun recs → progress o.plan (Begun recs) ≤ told → length recs ≡ length o.plan.files → get m new_path ≡ None → finish ≤ last_moment →
-      Leads (offload d o base) d told m x (all_ok (publish_calls d (list_of o.plan) (plan_list_text o.plan recs finish))) (Settled (Sealed recs finish))
-  list_leads m x recs finish may at owed full no_new early = (
-    Preparing (reached x),
-    prepares refl may (subst (λ (r : Stage). IsFree o.plan r new_path ⊎ ((new_path ≡ journal_path) × IsBehindGate o.plan r 0)) (sym at) (inl (inl (inl refl)))),
-    (
-      Settled (reached x),
-      flushes,
-      subst (λ (r : Stage). Leads (offload d o base) d told (waiting d m (plan_list_text o.plan recs finish) no_new) (Settled r) (Rename d new_path (list_of o.plan) true ∷ Sync d true ∷ []) (Settled (Sealed recs finish))) (sym at) (
-        Committing (Begun recs) (Sealed recs finish) true,
-        commits refl owed (seals full (waits d m (plan_list_text o.plan recs finish) no_new) early),
-        (Settled (Sealed recs finish), flushes, refl),
-      ),
-    ),
-  )
 
   module _ (recs : List Rec) (rec : Rec) (file : PlannedFile) (next : IsNext o.plan recs file) where
     -- the file gets its path, and its record stands behind the gate

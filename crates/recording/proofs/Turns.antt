@@ -21,16 +21,14 @@ use Rattle.drive_journal.specs.declared.record.Rec.{Rec}
 use Rattle.drive_journal.specs.Calls.{place_calls, open_calls, tidy_calls, publish_calls}
 use Rattle.drive_journal.specs.Journal.{journal_code}
 use Rattle.drive_journal.specs.Record.{closed_record}
-use Rattle.offload_law.specs.Sealing.{plan_list_text}
-use Rattle.offload_law.specs.Stages.{Fresh, Begun, Sealed, HasRecords, progress}
+use Rattle.offload_law.specs.Stages.{Fresh, Begun, HasRecords, progress}
 use Rattle.offload_law.specs.Steps.{offload}
 use Rattle.offload_law.proofs.Plans.{not_new, not_scratch, list_free}
 use Rattle.offload_law.proofs.Safe.{AllSafe, crash_prefix}
 use Rattle.recording.specs.Beginning.{ReadyToBegin, Begins}
 use Rattle.recording.specs.Drives.{Copying, IsCopying, In, Keeps, ToldOf, IsFound, LeavesPrefix}
 use Rattle.recording.specs.Filing.{Ready, Files}
-use Rattle.recording.specs.Sealing.{ReadyToSeal, Seals}
-use Rattle.recording.proofs.Leads.{begin_are, publish_are, record_are, tidy_on, place_on, tidy_leads, publish_leads, list_leads, place_leads, staged, open_leads, new_not_part}
+use Rattle.recording.proofs.Leads.{begin_are, record_are, tidy_on, place_on, tidy_leads, publish_leads, place_leads, staged, open_leads, new_not_part}
 
 -- calls on the drive announce nothing
 pub told_still : (D : Copying) (d : ℕ) {P : List Event → Type 0} {old new : World} → Went (Only (Drive d)) P old new → (past before all : List Event) → old.events ≡ Some (past ++ before) → new.events ≡ Some (past ++ all) → ToldOf D d all ≡ ToldOf D d before
@@ -83,17 +81,6 @@ module _ (safe : AllSafe) where
         tried_in P (safe d D.work ok.plan D.start) d (tidy_calls d None false ++ publish_calls d journal_path journal) t (begin_are d journal) D.start D.stage past before all was now (Settled Fresh) (Settled (Begun [])) ready.fresh
         (subst (λ (j : List ℕ). Leads P d (ToldOf D d before) R (Settled Fresh) (all_ok (tidy_calls d None false ++ publish_calls d journal_path j)) (Settled (Begun []))) (sym ready.journal_is) (begin_leads ready.no_list))
 
-    -- the list, where every file is recorded
-    sealed : {list text : List ℕ} {done : Bool} {old new : World} (recs : List Rec) (finish : ℕ) → Tried d (publish_calls d list text) done old new → ReadyToSeal D d before recs finish list text →
-        (past all : List Event) → old.events ≡ Some (past ++ before) → new.events ≡ Some (past ++ all) →
-        Came (offload d D.work D.start) d D.start D.stage before all done (all_ok (publish_calls d list text)) (Settled (Sealed recs finish))
-    sealed {list = list} {text = text} recs finish t ready past all was now =
-        let P = offload d D.work D.start in
-        let leads = list_leads d D.work ok.plan D.start (ToldOf D d before) R ready.under_way.state recs finish ready.under_way.free ready.under_way.at ready.told ready.full ready.no_scratch ready.moment in
-        let named = subst (λ (q : List ℕ). Leads P d (ToldOf D d before) R ready.under_way.state (all_ok (publish_calls d q (plan_list_text D.work.plan recs finish))) (Settled (Sealed recs finish))) (sym ready.list_is) leads in
-        tried_in P (safe d D.work ok.plan D.start) d (publish_calls d list text) t (publish_are d list text) D.start D.stage past before all was now ready.under_way.state (Settled (Sealed recs finish)) ready.under_way.is_in
-        (subst (λ (b : List ℕ). Leads P d (ToldOf D d before) R ready.under_way.state (all_ok (publish_calls d list b)) (Settled (Sealed recs finish))) (sym ready.text_is) named)
-
     module _ (recs : List Rec) (rec : Rec) where
       -- the next file, where it is in the part
       record_leads : {gate : ℕ} {path : List ℕ} → (ready : Ready D d before recs gate path rec) →
@@ -137,13 +124,5 @@ module _ (safe : AllSafe) where
     keeps = λ D is past before all was now ready. let c = begun D is d before t ready past all was now in (record { state = c.state; is_in = c.is_in }, told_still D d t.went past before all was now);
     done = λ went D is past before all was now ready.
         let c = begun D is d before t ready past all was now in
-        subst (λ (x : State (offload d D.work D.start)). In D d all x) (c.whole went).0 c.is_in;
-  }
-
-  pub seals_all : (d : ℕ) (list text : List ℕ) (ok : Bool) (old new : World) → Tried d (publish_calls d list text) ok old new → Seals d list text ok old new
-  seals_all d list text ok old new t = record {
-    keeps = λ D is recs finish past before all was now ready. let c = sealed D is d before recs finish t ready past all was now in (record { state = c.state; is_in = c.is_in }, told_still D d t.went past before all was now);
-    done = λ went D is recs finish past before all was now ready.
-        let c = sealed D is d before recs finish t ready past all was now in
         subst (λ (x : State (offload d D.work D.start)). In D d all x) (c.whole went).0 c.is_in;
   }

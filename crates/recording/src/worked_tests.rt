@@ -3,12 +3,12 @@ ghost use Rattle.std.specs.Prelude.{◌≡◌, ◌<◌, ◌≤◌, false, IfOk, 
 ghost use Rattle.bay_mem.specs.State.{world_of};
 ghost use Rattle.path_text.specs.Path.{is_control_path};
 
-use crate::{begin_on, record_file, seal_on};
+use crate::{begin_on, record_file};
 use bay_core::{Bay, Event};
 use bay_mem::{MemBay, MemMap};
 use block_pool::Pool;
 use digest_set::{Fan, triple_of};
-use drive_journal::{Gate, Rec};
+use drive_journal::{Gate, Rec, publish};
 use path_text::{Moment, PathText, is_control};
 use std::alloc::Global;
 use std::process::Abort;
@@ -126,7 +126,7 @@ fn make(rt: &impl Abort, alloc: Global, bay: &mut MemBay, call: Call) -> Result<
         Call::Append => bay.write(0, PART, 0, ABC)?,
         Call::Sync => bay.sync(0)?,
         Call::Record => record(rt, alloc, bay)?,
-        Call::Seal => seal_on(bay, 0, LIST, TEXT)?,
+        Call::Seal => publish(bay, 0, LIST, TEXT)?,
         Call::Name => bay.rename(0, PART, FILE)?,
         Call::Write => bay.write(0, JOURNAL, GATE + 1, RECORD)?,
         Call::Open => bay.write(0, JOURNAL, GATE, &[1])?,

@@ -1,4 +1,3 @@
-pub mod Notes
 pub mod Texts
 pub mod Drafts
 pub mod Compares

@@ -1,7 +1,7 @@
 // The list is written whole before it gets its name.
 ghost use Rattle.std.specs.Prelude.{◌≡◌, ◌<◌, ◌^◌, length, is_ok, IfOk};
 ghost use Rattle.bay_core.specs.Went.{Tried};
-ghost use Rattle.seal_step.specs.Parts.{list_parts, joined, writes_from, drafting, naming};
+ghost use Rattle.seal_step.specs.Parts.{list_parts, joined, writes_from, naming};
 
 use crate::parts::Listing;
 use bay_core::{Bay, DriveFailed};
@@ -10,8 +10,8 @@ use path_text::Scratch;
 /// The file that is written whole before it gets its name.
 pub const NEW: &str = ".mhlstation/new";
 
-// Writes the parts one behind another. The answer is the length of them all, in bytes.
-fn write_parts<B: Bay>(
+/// Writes the parts of the list to that file, one behind another. The answer is the length of them all, in bytes.
+pub fn write_parts<B: Bay>(
     bay: &mut B,
     d: u32,
     list: &Listing<'_>,
@@ -31,24 +31,6 @@ fn write_parts<B: Bay>(
         at += bytes.len() as u64;
     }
     Ok(at)
-}
-
-/// Writes the list to that file and settles it. The answer is its length in bytes.
-pub fn draft<B: Bay>(
-    bay: &mut B,
-    d: u32,
-    list: &Listing<'_>,
-    scratch: &mut Scratch,
-) -> Result<u64, DriveFailed>
-    requires drive { d < (B.world bay.old).attached.drives }
-    requires whole { length list.now.entries.now ≡ length list.now.plan.now.files }
-    ensures tried { Tried d (drafting d (list_parts list.now.plan.now list.now.entries.now list.now.finish)) (is_ok result) (B.world bay.old) (B.world bay.new) }
-    ensures total { IfOk result (λ total. total ≡ length (joined (list_parts list.now.plan.now list.now.entries.now list.now.finish))) }
-    ensures range { IfOk result (λ total. total < 2 ^ 48) }
-{
-    let total = write_parts(bay, d, list, scratch)?;
-    bay.sync(d)?;
-    Ok(total)
 }
 
 /// Gives that file the name of the list, and settles it.

@@ -6,6 +6,8 @@ mod error;
 mod parts;
 mod reading;
 mod sealing;
+#[cfg(test)]
+mod tests;
 
 pub use error::SealError;
 pub use sealing::seal;

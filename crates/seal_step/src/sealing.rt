@@ -13,7 +13,7 @@ ghost use Rattle.seal_step.specs.Parts.{list_parts, joined};
 ghost use Rattle.seal_step.specs.Sealing.{Seals};
 
 use crate::SealError;
-use crate::drafting::{draft, name_list};
+use crate::drafting::{name_list, write_parts};
 use crate::parts::Listing;
 use crate::reading::read_list;
 use bay_core::Bay;
@@ -85,9 +85,13 @@ fn draft_and_name<B: Bay>(
         entries,
         finish,
     };
-    let Ok(total) = draft(bay, d, &list, scratch) else {
+    let Ok(total) = write_parts(bay, d, &list, scratch) else {
         return Err(SealError::DriveFailed);
     };
+    match bay.sync(d) {
+        Ok(()) => {} // the list is whole before it is read again
+        Err(_) => return Err(SealError::DriveFailed),
+    }
     match read_list(bay, d, &list, total, pool, slot, scratch) {
         Ok(()) => {}
         Err(e) => return Err(e),

@@ -2,7 +2,7 @@ use Rattle.std.proofs.Common.{◌≡◌, ◌∙◌, ℕ, List, sym, subst, codes
 use Rattle.std.specs.Prelude.{Some, IsTrue}
 use Rattle.mhl_writer.specs.Note.{is_note}
 use Rattle.mhl_writer.specs.ListText.{head_text}
-use Rattle.seal_step.proofs.Notes.{label_note, tool_note}
+use Rattle.offload_law.proofs.Notes.{label_note, tool_note}
 use Rattle.seal_step.proofs.parts.Listing.head_into.Goals as goal
 
 pub part_head-requires-clause-name : goal.part_head-requires-clause-name

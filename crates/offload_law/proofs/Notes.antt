@@ -1,6 +1,6 @@
--- The labels of a plan and the tool are notes, and an entry has a digest.
-use Rattle.std.proofs.Common.{◌≡◌, ℕ, zero, suc, ◌-◌, ◌<◌, ◌≤◌, true, false, Bool, List, [], ◌∷◌, length, refl, sym, arith, codes}
-use Rattle.std.specs.Prelude.{◌&&◌, ◌||◌, ◌==◌, not, nat_le, nat_lt, slice_index, is_some}
+-- The labels of a plan and the tool of a list are notes.
+use Rattle.std.proofs.Common.{◌≡◌, ℕ, zero, suc, ◌-◌, ◌<◌, ◌≤◌, true, Bool, List, [], ◌∷◌, length, refl, arith, codes}
+use Rattle.std.specs.Prelude.{◌&&◌, ◌==◌, not, nat_le, nat_lt, slice_index}
 use Rattle.std.specs.List.{list_all}
 use Rattle.std.specs.Str.{is_utf8, IsAscii}
 use Rattle.std.proofs.lemmas.Bool.{and_parts}
@@ -10,7 +10,6 @@ use Rattle.path_text.specs.Places.{first_below, is_clean}
 use Rattle.path_text.specs.Label.{is_label}
 use Rattle.path_text.proofs.Labels.{is_label-name, is_label_byte-plain, name_utf8, name_clean}
 use Rattle.mhl_writer.specs.Note.{is_note, is_note_rule}
-use Rattle.offload_law.specs.Sealing.{shown}
 
 note_rule : (n first last : ℕ) (clean : Bool) → 1 ≤ n → n ≤ 256 → clean ≡ true → 45 ≤ first → 45 ≤ last → (nat_le 1 n && nat_le n 256 && clean && not (first == 32) && not (last == 32)) ≡ true
 note_rule n first last clean some few is low high = rw is (grind (arith, nat_tests))
@@ -47,10 +46,3 @@ unfolding is_note
 tool_note =
     let text = codes "mhlstation 1" in
     both (is_utf8 text) (is_note_rule text) (is_utf8-from_IsUtf8 text (IsUtf8-from_ascii text (ascii text refl))) tool_rule
-
--- where there is a kind, a digest is shown
-pub some_shown : (a b c : Bool) (x y z : List ℕ) → (a || b || c) ≡ true → (is_some (shown a x) || (is_some (shown b y) || is_some (shown c z))) ≡ true
-some_shown true b c x y z h = refl
-some_shown false true c x y z h = refl
-some_shown false false true x y z h = refl
-some_shown false false false x y z h = h
