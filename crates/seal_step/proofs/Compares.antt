@@ -1,9 +1,9 @@
 -- Pieces of a list that are read again, and what they come to.
-use Rattle.std.proofs.Common.{◌≡◌, ◌≢◌, inl, inr, ℕ, suc, Bool, true, false, ◌+◌, ◌<◌, ◌≤◌, List, [], ◌∷◌, ◌++◌, length, take, drop, refl, sym, ◌∙◌, ap, subst, arith, length-append, add-one}
+use Rattle.std.proofs.Common.{◌≡◌, inl, inr, ℕ, false, ◌+◌, ◌<◌, ◌≤◌, List, [], ◌∷◌, ◌++◌, length, take, drop, refl, sym, ◌∙◌, ap, subst, arith, length-append, add-one}
 use Rattle.std.specs.Prelude.{Option, Some, None, Result, Ok, Err, MatchResult, slice_index}
 use Rattle.std.specs.List.{AllByRecursion}
 use Rattle.std.specs.FinMap.{get}
-use Rattle.std.proofs.lemmas.List.{length-take, length-drop, take_all, nil_from_length, get_or_append_left, get_or-append-add, take-append-le, take-append-drop, drop-drop, drop-append-le}
+use Rattle.std.proofs.lemmas.List.{length-take, length-drop, take_all, get_or_append_left, get_or-append-add, take-append-le, take-append-drop, drop-drop, drop-append-le}
 use Rattle.std.proofs.Math.Seq.{take-suc, take-add, take-append-add}
 use Rattle.bay_core.specs.declared.event.Event.{Event}
 use Rattle.bay_core.specs.declared.event.Event.TheVariants.{DriveRead}
@@ -24,7 +24,7 @@ use Rattle.seal_step.specs.declared.error.SealError.{SealError}
 use Rattle.seal_step.specs.declared.error.SealError.TheVariants.{DriveFailed, Absent, Byte, Length}
 use Rattle.seal_step.specs.Comparing.{NoPiece, NotEnded, IsOther, Compared, SameSoFar, PartBack}
 use Rattle.seal_step.specs.Parts.{joined}
-use Rattle.seal_step.specs.Reading.{IsFirstOther, BehindFront, ListBack}
+use Rattle.seal_step.specs.Reading.{IsFirstOther, ListBack}
 
 -- ---- two pieces
 

@@ -1,7 +1,7 @@
 -- What a stop within a sealing leaves, and what stands after it.
-use Rattle.std.proofs.Common.{◌≡◌, ◌≢◌, ◌⊎◌, inl, inr, ℕ, ◌+◌, ◌<◌, Bool, true, false, List, [], ◌∷◌, ◌++◌, length, map, refl, sym, ap, ◌∙◌, subst, arith, append_assoc}
+use Rattle.std.proofs.Common.{◌≡◌, ◌≢◌, ◌⊎◌, inl, inr, ℕ, ◌+◌, ◌<◌, Bool, true, false, List, [], ◌∷◌, ◌++◌, length, refl, sym, ap, ◌∙◌, subst, append_assoc}
 use Rattle.std.specs.Prelude.{Some, None, Result, Ok, Err, is_ok}
-use Rattle.std.specs.FinMap.{get, insert, remove}
+use Rattle.std.specs.FinMap.{get, remove}
 use Rattle.std.proofs.lemmas.Bool.{false≢true}
 use Rattle.bay_core.specs.declared.event.Event.{Event}
 use Rattle.bay_core.specs.declared.event.Event.TheVariants.{AttachSource, AttachDrive, AttachFailed, SourceList, SourceRead, DriveList, DriveRead, Write, Sync, Rename, Remove, Moment, Pick, Say}
@@ -18,7 +18,7 @@ use Rattle.bay_core.proofs.Changes.{Changes, torn_other}
 use Rattle.bay_core.proofs.Crash.{IsIn, front_goes, left_any, left_since, left_keeps, calls_all}
 use Rattle.bay_core.proofs.Crashing.{goes_one}
 use Rattle.bay_core.proofs.Looking.{reads_kept, untouched_on}
-use Rattle.bay_core.proofs.Maps.{insert_here, insert_other, remove_here, remove_other, moved_file, moved_none, moved_here, copied_file, copied_none, copied_here, moved_other, copied_other, there_or_none}
+use Rattle.bay_core.proofs.Maps.{insert_other, remove_here, moved_file, moved_none, moved_here, copied_none, copied_here, moved_other, copied_other}
 use Rattle.bay_core.proofs.Readable.{reads_left}
 use Rattle.bay_core.proofs.Rest.{settled_sync, untouched_settled}
 use Rattle.bay_core.proofs.Runs.{since_made, told_since, all_ran, AllOn-front}
@@ -28,7 +28,6 @@ use Rattle.seal_step.specs.declared.error.SealError.{SealError}
 use Rattle.seal_step.specs.declared.error.SealError.TheVariants.{DriveFailed, Absent, Byte, Length}
 use Rattle.seal_step.specs.Calls.{SealCalls}
 use Rattle.seal_step.specs.Parts.{writes_from, joined, drafting, naming}
-use Rattle.seal_step.specs.Reading.{BackCalls}
 use Rattle.seal_step.proofs.Drafted.{drafted, drafted_others, drafting_on, back_keeps}
 
 -- ---- lists of calls

@@ -1,6 +1,6 @@
 -- Where the calls of a sealing lead an offload.
 use Rattle.std.proofs.Common.{◌≡◌, inl, inr, ℕ, ◌+◌, ◌<◌, ◌≤◌, Bool, true, false, List, [], ◌∷◌, ◌++◌, length, refl, sym, ap, ◌∙◌, subst, arith}
-use Rattle.std.specs.Prelude.{Some, None, Result, Ok, Err}
+use Rattle.std.specs.Prelude.{Some, Result, Ok, Err}
 use Rattle.std.specs.FinMap.{get}
 use Rattle.std.proofs.lemmas.Bool.{false≢true}
 use Rattle.bay_core.specs.declared.event.Event.{Event}
@@ -8,12 +8,12 @@ use Rattle.bay_core.specs.Looks.{IsUntouched}
 use Rattle.bay_core.specs.Map.{Map}
 use Rattle.bay_core.specs.Paths.{new_path}
 use Rattle.bay_core.specs.Replay.{Drive, reads, replayed}
-use Rattle.bay_core.specs.World.{World, Honest}
-use Rattle.bay_core.specs.Went.{Only, Ran, Went, Tried, sync_call}
+use Rattle.bay_core.specs.World.{World}
+use Rattle.bay_core.specs.Went.{Only, Went, Tried, sync_call}
 use Rattle.bay_core.proofs.Honesty.{honest_later}
 use Rattle.bay_core.proofs.Looking.{reads_kept, untouched_no_change}
 use Rattle.bay_core.proofs.Runs.{went_such, went_then, told_since, told_between, all_ran}
-use Rattle.crash_law.specs.Protocol.{State, Settled, Preparing, Committing, reached, flushed, MayPrepare, prepares, flushes, commits, Leads, Announced, read_after}
+use Rattle.crash_law.specs.Protocol.{State, Settled, Preparing, Committing, reached, flushed, MayPrepare, prepares, flushes, commits, Leads}
 use Rattle.crash_law.proofs.Calls.{AreCalls, all_ok, reads_calls}
 use Rattle.crash_law.proofs.Staying.{rests_still}
 use Rattle.crash_law.proofs.Worlds.{Came, tried_in}
@@ -27,9 +27,9 @@ use Rattle.offload_law.proofs.Safe.{AllSafe}
 use Rattle.recording.specs.Drives.{Copying, IsCopying, In, ToldOf, UnderWay}
 use Rattle.seal_step.specs.declared.error.SealError.{SealError}
 use Rattle.seal_step.specs.declared.error.SealError.TheVariants.{DriveFailed, Absent, Byte, Length}
-use Rattle.seal_step.specs.Calls.{SealCalls, SealCause, FailsAlone}
+use Rattle.seal_step.specs.Calls.{SealCalls, FailsAlone}
 use Rattle.seal_step.specs.Parts.{writes_from, joined, drafting, naming}
-use Rattle.seal_step.specs.Reading.{ListBack, OkOrFault}
+use Rattle.seal_step.specs.Reading.{ListBack}
 use Rattle.seal_step.specs.Sealing.{ReadyToSeal, Seals}
 use Rattle.seal_step.proofs.Drafted.{drafted, drafting_on, back_keeps}
 

@@ -1,10 +1,10 @@
 -- The parts of a list, and where each stands in its text.
-use Rattle.std.proofs.Common.{◌≡◌, ℕ, zero, suc, ◌+◌, ◌<◌, ◌≤◌, List, [], ◌∷◌, ◌++◌, length, map, take, drop, refl, sym, ap, ◌∙◌, subst, arith, append_assoc, append-nil, length-append, add-one}
+use Rattle.std.proofs.Common.{◌≡◌, ℕ, zero, suc, ◌+◌, ◌<◌, ◌≤◌, List, [], ◌∷◌, ◌++◌, length, map, take, drop, refl, sym, ap, ◌∙◌, arith, append_assoc, append-nil, length-append, add-one}
 use Rattle.std.specs.Prelude.{slice_index_or, Some}
 use Rattle.std.specs.List.{flat_map, slice_get}
-use Rattle.std.proofs.lemmas.List.{length-map, take_all}
+use Rattle.std.proofs.lemmas.List.{length-map}
 use Rattle.mhl_writer.specs.declared.values.HashEntry.{HashEntry}
-use Rattle.mhl_writer.specs.ListText.{entry_text, tail_text, head_text, creator_text}
+use Rattle.mhl_writer.specs.ListText.{entry_text, tail_text, head_text}
 use Rattle.path_text.specs.declared.kinds.Kinds.{Kinds}
 use Rattle.copy_plan.specs.declared.file.PlannedFile.{PlannedFile}
 use Rattle.copy_plan.specs.Plan.{PlanValue}

@@ -1,7 +1,7 @@
-use Rattle.std.proofs.Common.{◌≡◌, ◌<◌, ap, length, ◌∙◌, arith, true, false}
+use Rattle.std.proofs.Common.{◌<◌, ap, length, ◌∙◌, arith, true, false}
 use Rattle.drive_journal.proofs.Trying.{tried_exit}
 use Rattle.seal_step.specs.Parts.{list_parts}
-use Rattle.seal_step.proofs.Drafts.{none_written, none_long, one_more, one_failed, all_written}
+use Rattle.seal_step.proofs.Drafts.{none_written, none_long, one_more, one_failed}
 use Rattle.seal_step.proofs.Texts.{joined_next}
 use Rattle.seal_step.proofs.drafting.write_parts.Goals as goal
 

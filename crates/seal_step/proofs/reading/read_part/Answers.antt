@@ -1,4 +1,4 @@
-use Rattle.std.proofs.Common.{◌≡◌, ◌-◌, ◌∙◌, ℕ, length, drop, refl, arith, length-drop}
+use Rattle.std.proofs.Common.{◌-◌, ◌∙◌, ℕ, length, drop, refl, arith, length-drop}
 use Rattle.std.proofs.lemmas.List.{take_all}
 use Rattle.std.proofs.lemmas.Result.{err_from_is_err_and}
 use Rattle.seal_step.proofs.Compares.{part_none, part_whole, part_stopped, part_short, part_other, part_more, part_within}

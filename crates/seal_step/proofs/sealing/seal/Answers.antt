@@ -1,4 +1,4 @@
-use Rattle.std.proofs.Common.{◌≡◌, ◌≢◌, ℕ, List, subst}
+use Rattle.std.proofs.Common.{◌≢◌, ℕ, List, subst}
 use Rattle.std.specs.Prelude.{is_ok}
 use Rattle.bay_core.specs.Crashes.{Leaves, Rests}
 use Rattle.bay_core.specs.Paths.{new_path}

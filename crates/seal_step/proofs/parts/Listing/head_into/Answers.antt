@@ -1,4 +1,4 @@
-use Rattle.std.proofs.Common.{◌≡◌, ◌∙◌, ℕ, List, sym, subst, codes}
+use Rattle.std.proofs.Common.{◌∙◌, ℕ, List, sym, subst, codes}
 use Rattle.std.specs.Prelude.{Some, IsTrue}
 use Rattle.mhl_writer.specs.Note.{is_note}
 use Rattle.mhl_writer.specs.ListText.{head_text}
