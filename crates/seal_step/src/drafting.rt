@@ -3,7 +3,7 @@ ghost use Rattle.std.specs.Prelude.{◌≡◌, ◌<◌, ◌^◌, length, is_ok, 
 ghost use Rattle.bay_core.specs.Went.{Tried};
 ghost use Rattle.seal_step.specs.Parts.{list_parts, joined, writes_from, naming};
 
-use crate::parts::Listing;
+use crate::parts::ListParts;
 use bay_core::{Bay, DriveFailed};
 use path_text::Scratch;
 
@@ -14,7 +14,7 @@ pub const NEW: &str = ".mhlstation/new";
 pub fn write_parts<B: Bay>(
     bay: &mut B,
     d: u32,
-    list: &Listing<'_>,
+    list: &ListParts<'_>,
     scratch: &mut Scratch,
 ) -> Result<u64, DriveFailed>
     requires drive { d < (B.world bay.old).attached.drives }
@@ -24,7 +24,7 @@ pub fn write_parts<B: Bay>(
     ensures range { IfOk result (λ total. total < 2 ^ 48) }
 {
     let mut at = 0u64;
-    for part in 0..list.parts() {
+    for part in 0..list.count() {
         list.part_into(part, scratch);
         let bytes = scratch.bytes();
         bay.write(d, NEW, at, bytes)?;

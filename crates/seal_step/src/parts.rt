@@ -15,15 +15,15 @@ const TOOL: &str = "mhlstation 1";
 
 /// What a list is made of (docs/FORMATS.md, "Lists"). There is one record for each file of the plan, in their order.
 #[derive(Clone, Copy)]
-pub struct Listing<'a> {
+pub struct ListParts<'a> {
     pub plan: &'a Plan,
     pub entries: &'a [Rec],
     pub finish: Moment,
 }
 
-impl Listing<'_> {
+impl ListParts<'_> {
     /// How many parts the list has: its head, the entry of each file, and its tail.
-    pub fn parts(&self) -> usize
+    pub fn count(&self) -> usize
         requires { length self.now.entries.now ≡ length self.now.plan.now.files }
         ensures count { result ≡ length (list_parts self.now.plan.now self.now.entries.now self.now.finish) }
         ensures few { result ≤ 262_146 }

@@ -10,7 +10,7 @@ ghost use Rattle.seal_step.specs.Reading.{ListBack};
 
 use crate::SealError;
 use crate::drafting::NEW;
-use crate::parts::Listing;
+use crate::parts::ListParts;
 use bay_core::Bay;
 use block_pool::{Pool, Slot};
 use path_text::Scratch;
@@ -106,7 +106,7 @@ fn ask_past_end<B: Bay>(bay: &mut B, d: u32, total: u64, block: &mut [u8]) -> Re
 pub fn read_list<B: Bay>(
     bay: &mut B,
     d: u32,
-    list: &Listing<'_>,
+    list: &ListParts<'_>,
     total: u64,
     pool: &mut Pool,
     slot: &Slot,
@@ -121,7 +121,7 @@ pub fn read_list<B: Bay>(
     ensures pool { pool.new ≡ with_block pool.old slot.now (block_at pool.new slot.now) }
 {
     let mut at = 0u64;
-    for part in 0..list.parts() {
+    for part in 0..list.count() {
         list.part_into(part, scratch);
         let text = scratch.bytes();
         read_part(bay, d, total, at, text, pool.bytes_mut(slot))?;

@@ -14,7 +14,7 @@ ghost use Rattle.seal_step.specs.Sealing.{Seals};
 
 use crate::SealError;
 use crate::drafting::{name_list, write_parts};
-use crate::parts::Listing;
+use crate::parts::ListParts;
 use crate::reading::read_list;
 use bay_core::Bay;
 use block_pool::{Pool, Slot};
@@ -80,7 +80,7 @@ fn draft_and_name<B: Bay>(
     ensures seals { Seals d (list_of plan.now) (plan_list_text plan.now entries.now finish) (is_ok result) (B.world bay.old) (B.world bay.new) }
 {
     steps_are_safe();
-    let list = Listing {
+    let list = ListParts {
         plan,
         entries,
         finish,

@@ -16,7 +16,7 @@ returns-in_err-write-clause-tried g c =
     let list = c.args.list.now in
     let parts = list_parts list.plan.now list.entries.now list.finish in
     let inside = c.loop-part-test.true in
-    let many = c.parts-part-end.ensures.count in
+    let many = c.count-part-end.ensures.count in
     tried_exit _ _ _ _ c.from_residual.ensures.1
     (one_failed _ parts _ (one_more _ parts _ _ _ false (omega arith) c.loop-part.invariant.here (c.bytes-bytes.ensures ∙ c.part_into.ensures.is) c.loop-part.invariant.tried c.in_err-write.ensures))
 
@@ -25,7 +25,7 @@ loop-part-preserved g c =
     let list = c.args.list.now in
     let parts = list_parts list.plan.now list.entries.now list.finish in
     let inside = c.loop-part-test.true in
-    let many = c.parts-part-end.ensures.count in
+    let many = c.count-part-end.ensures.count in
     let there : c.loop-part.part < length parts = omega arith in
     let is = c.bytes-bytes.ensures ∙ c.part_into.ensures.is in
     let here = c.loop-part.invariant.here in

@@ -6,7 +6,7 @@ use Rattle.mhl_writer.specs.ListText.{entry_text}
 use Rattle.offload_law.specs.Sealing.{sealed_entry}
 use Rattle.seal_step.specs.Parts.{list_parts}
 use Rattle.seal_step.proofs.Texts.{length-list_parts, part_first, part_entry_at, part_last}
-use Rattle.seal_step.proofs.parts.Listing.part_into.Goals as goal
+use Rattle.seal_step.proofs.parts.ListParts.part_into.Goals as goal
 
 pub returns-then-part-eq0-clause-is : goal.returns-then-part-eq0-clause-is
 returns-then-part-eq0-clause-is c =

@@ -3,7 +3,7 @@ use Rattle.std.specs.Prelude.{Some, IsTrue}
 use Rattle.mhl_writer.specs.Note.{is_note}
 use Rattle.mhl_writer.specs.ListText.{head_text}
 use Rattle.offload_law.proofs.Notes.{label_note, tool_note}
-use Rattle.seal_step.proofs.parts.Listing.head_into.Goals as goal
+use Rattle.seal_step.proofs.parts.ListParts.head_into.Goals as goal
 
 pub part_head-requires-clause-name : goal.part_head-requires-clause-name
 part_head-requires-clause-name c = subst (λ (t : List ℕ). IsTrue (is_note t)) (sym c.as_str.ensures.same) (label_note _ c.as_str.ensures.label)
