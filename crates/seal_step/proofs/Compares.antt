@@ -1,9 +1,9 @@
 -- Pieces of a list that are read again, and what they come to.
-use Rattle.std.proofs.Common.{◌≡◌, inl, inr, ℕ, false, ◌+◌, ◌<◌, ◌≤◌, List, [], ◌∷◌, ◌++◌, length, take, drop, refl, sym, ◌∙◌, ap, subst, arith, length-append, add-one}
+use Rattle.std.proofs.Common.{◌≡◌, inl, inr, ℕ, false, ◌+◌, ◌-◌, ◌<◌, ◌≤◌, List, [], ◌∷◌, ◌++◌, length, take, drop, refl, sym, ◌∙◌, ap, subst, arith, length-append, add-one}
 use Rattle.std.specs.Prelude.{Option, Some, None, Result, Ok, Err, MatchResult, slice_index}
 use Rattle.std.specs.List.{AllByRecursion}
 use Rattle.std.specs.FinMap.{get}
-use Rattle.std.proofs.lemmas.List.{length-take, length-drop, take_all, get_or_append_left, get_or-append-add, take-append-le, take-append-drop, drop-drop, drop-append-le}
+use Rattle.std.proofs.lemmas.List.{length-take, length-drop, take_all, get_or_append_left, get_or-append-add, take-append-le, take-append-drop, drop-drop, drop-append-le, take-take, get_or-take, get_or-drop}
 use Rattle.std.proofs.Math.Seq.{take-suc, take-add, take-append-add}
 use Rattle.bay_core.specs.declared.event.Event.{Event}
 use Rattle.bay_core.specs.declared.event.Event.TheVariants.{DriveRead}
@@ -22,7 +22,9 @@ use Rattle.file_reading.proofs.Pieces.{so_far_more, take_none, none_asked}
 use Rattle.read_back.specs.Back.{IsPiece, Pieces, IsNext, PiecesThen, NextFailed}
 use Rattle.seal_step.specs.declared.error.SealError.{SealError}
 use Rattle.seal_step.specs.declared.error.SealError.TheVariants.{DriveFailed, Absent, Byte, Length}
-use Rattle.seal_step.specs.Comparing.{NoPiece, NotEnded, IsOther, Compared, SameSoFar, PartBack}
+use Rattle.seal_step.specs.Comparing.{NoPiece, NotEnded, IsOther, Compared, SameSoFar, Stands, place_of, BlockCompared, BlockBack}
+use Rattle.seal_step.specs.declared.reading.Place.{Place}
+use Rattle.seal_step.proofs.Texts.{stands_here}
 use Rattle.seal_step.specs.Parts.{joined}
 use Rattle.seal_step.specs.Reading.{IsFirstOther, ListBack}
 
@@ -221,7 +223,7 @@ module _ (d : ℕ) (text : List ℕ) (old mid new : World) (s : SameSoFar d text
       subst (λ n. ListBack d text (Err (Length n read)) old new) (sym h.0)
       (subst (λ n. ListBack d text (Err (Length (length text) n)) old new) (sym h.1) (back_long h.2 h.3))
 
--- ---- a part, piece by piece
+-- ---- a block
 
 -- a piece of a part that stands at this place of the text
 piece_stands : (text part : List ℕ) (at done n : ℕ) → part ≡ take (length part) (drop at text) → done + n ≤ length part → take n (drop done part) ≡ take n (drop (at + done) text)
@@ -233,67 +235,93 @@ piece_stands text part at done n is within =
     ∙ take-append-le n (drop done part) rest (omega (arith, within, length-drop done part))
     )
 
--- so much of the part at this place was read behind the pieces so far
-abbrev pub PartSoFar : ℕ → ℕ → ℕ → List ℕ → ℕ → World → World → Type 0
-PartSoFar d total at part done old new = (text : List ℕ) (first : World) → length text ≡ total → part ≡ take (length part) (drop at text) → SameSoFar d text at first old → SameSoFar d text (at + done) first new
+-- a piece of the part in the scratch is a piece of the text
+pub piece_here : (parts : List (List ℕ)) (place : Place) (scratch : List ℕ) (at n : ℕ) → Stands parts place scratch → place_of parts place ≡ at → place.done + n ≤ length scratch → take n (drop place.done scratch) ≡ take n (drop at (joined parts))
+piece_here parts place scratch at n s here within =
+    piece_stands (joined parts) scratch (length (joined (take place.part parts))) place.done n (stands_here parts place.part _ scratch s.there refl s.is) within ∙ ap (λ k. take n (drop k (joined parts))) here
 
-module _ (d total at : ℕ) (part : List ℕ) where
-  pub part_none : (w : World) → PartSoFar d total at part 0 w w
-  part_none w = λ text first size is s. let same : at ≡ at + 0 = omega arith in subst (λ n. SameSoFar d text n first w) same s
+-- another byte behind some that are the same
+pub other_later : (start : ℕ) (read U : List ℕ) (done n p here there : ℕ) → take done read ≡ take done U → done + n ≤ length read → length read ≤ length U → IsOther (start + done) (take n (drop done U)) (take n (drop done read)) p here there → IsOther start (take (length read) U) read p here there
+other_later start read U done n p here there so_far within room o =
+    let inside : o.place < n = (let i = o.inside in omega (arith, i, length-take n (drop done read))) in
+    let least : done + o.place < length read = omega (arith, inside, within) in
+    let low : o.place ≤ n = omega (arith, inside) in
+    record {
+      place = done + o.place;
+      is = let is = o.is in omega (arith, is);
+      inside = least;
+      same = take-add done o.place read ∙ (λ i. so_far i ++ (sym (take-take o.place n (drop done read) low) ∙ o.same ∙ take-take o.place n (drop done U) low) i) ∙ sym (take-add done o.place U)
+          ∙ sym (take-take (done + o.place) (length read) U (omega (arith, least)));
+      written_is = o.written_is ∙ get_or-take n (drop done U) o.place 0 inside ∙ get_or-drop done U o.place 0 ∙ sym (get_or-take (length read) U (done + o.place) 0 least);
+      read_is = o.read_is ∙ get_or-take n (drop done read) o.place 0 inside ∙ get_or-drop done read o.place 0;
+      other = o.other;
+    }
 
-  pub part_whole : (done : ℕ) (old new : World) → done ≤ length part → length part ≤ done → PartSoFar d total at part done old new → PartBack d total at part (Ok tt) old new
-  part_whole done old new low high so_far = λ text first size is s.
-      let same : at + done ≡ at + length part = omega (arith, low, high) in
-      subst (λ n. SameSoFar d text n first new) same (so_far text first size is s)
+-- so many bytes more are the same
+pub same_later : (read U : List ℕ) (done n : ℕ) → take done read ≡ take done U → take n (drop done read) ≡ take n (drop done U) → take (done + n) read ≡ take (done + n) U
+same_later read U done n so_far more = take-add done n read ∙ (λ i. so_far i ++ more i) ∙ sym (take-add done n U)
 
-  module _ (done : ℕ) (old mid new : World) (so_far : PartSoFar d total at part done old mid) (inside : at + length part ≤ total) (low : done ≤ length part) where
-    pub part_stopped : (want : ℕ) (e : SealError) → NoPiece d (at + done) want e mid new → 0 < want → done + want ≤ length part → PartBack d total at part (Err e) old new
-    part_stopped want e h some within = λ text first size is s.
-        back_stopped d text (at + done) first mid new (so_far text first size is s) want e h (some, inl (omega (arith, size, within, inside)))
+-- a slice of the scratch is what follows in the text
+pub piece_given : (parts : List (List ℕ)) (place : Place) (scratch bytes : List ℕ) (at done n : ℕ) → Stands parts place scratch → place_of parts place ≡ at + done → bytes ≡ scratch → place.done + n ≤ length scratch →
+    take n (take (length bytes - place.done) (drop place.done bytes)) ≡ take n (drop done (drop at (joined parts)))
+piece_given parts place scratch bytes at done n s here is within =
+    let all = take_all (length bytes - place.done) (drop place.done bytes) (omega (arith, length-drop place.done bytes)) in
+    ap (take n) (all ∙ ap (drop place.done) is) ∙ piece_here parts place scratch (at + done) n s here within ∙ ap (take n) (sym (drop-drop done at (joined parts)))
 
-    pub part_short : (want n : ℕ) (block : List ℕ) → PieceRead d new_path (at + done) want (Some (take n block)) mid new → n ≡ 0 → 0 < want → done + want ≤ length part → PartBack d total at part (Err (Length total (at + done))) old new
-    part_short want n block p none some within = λ text first size is s.
+-- a slice of what was read
+pub slice_given : (read : List ℕ) (done n : ℕ) → take (done + n - done) (drop done read) ≡ take n (drop done read)
+slice_given read done n = let same : done + n - done ≡ n = omega arith in ap (λ k. take k (drop done read)) same
+
+-- what comparing a slice answers, the whole comparing answers
+pub compared_other : (parts : List (List ℕ)) (at : ℕ) (read : List ℕ) (done n : ℕ) (written given : List ℕ) (e : SealError) (place : Place) (scratch : List ℕ) → written ≡ take n (drop done (drop at (joined parts))) → given ≡ take n (drop done read) →
+    take done read ≡ take done (drop at (joined parts)) → done + n ≤ length read → at + length read ≤ length (joined parts) → Compared (at + done) written given (Err e) → BlockCompared parts at read (Err e) place scratch
+compared_other parts at read done n written given (Byte q here there) place scratch is_text is_read so_far within inside o =
+    let U = drop at (joined parts) in
+    let there_is = subst (λ (w : List ℕ). IsOther (at + done) w given q here there) is_text o in
+    other_later at read U done n q here there so_far within (omega (arith, inside, length-drop at (joined parts))) (subst (λ (g : List ℕ). IsOther (at + done) (take n (drop done U)) g q here there) is_read there_is)
+compared_other parts at read done n written given DriveFailed place scratch is_text is_read so_far within inside o = absurd o
+compared_other parts at read done n written given Absent place scratch is_text is_read so_far within inside o = absurd o
+compared_other parts at read done n written given (Length a b) place scratch is_text is_read so_far within inside o = absurd o
+
+module _ (d : ℕ) (parts : List (List ℕ)) (at : ℕ) (mid new : World) where
+  abbrev text : List ℕ
+  text = joined parts
+
+  module _ (want n : ℕ) (block : List ℕ) (p : PieceRead d new_path at want (Some (take n block)) mid new) (few : n ≤ want) (room : want ≤ length block) (within : at + want ≤ length text) where
+    long : length (take n block) ≡ n
+    long = omega (arith, length-take n block, few, room)
+
+    pub block_short : n ≡ 0 → 0 < want → (first : World) → SameSoFar d text at first mid → ListBack d text (Err (Length (length text) at)) first new
+    block_short none some first s =
         let empty : take n block ≡ [] = ap (λ k. take k block) none ∙ take_none block in
-        subst (λ k. ListBack d text (Err (Length k (at + done))) first new) size
-        (back_short d text (at + done) first mid new (so_far text first size is s) want (subst (λ (b : List ℕ). PieceRead d new_path (at + done) want (Some b) mid new) empty p) some (omega (arith, size, within, inside)))
+        back_short d text at first mid new s want (subst (λ (b : List ℕ). PieceRead d new_path at want (Some b) mid new) empty p) some within
 
-    module _ (rest : List ℕ) (n : ℕ) (block : List ℕ) (rest_is : rest ≡ drop done part) (p : PieceRead d new_path (at + done) (length rest) (Some (take n block)) mid new) (some : (n ≡ 0) → ⊥) (few : n ≤ length rest) (room : length rest ≤ length block) where
-      within : done + length rest ≤ length part
-      within = omega (arith, ap length rest_is, length-drop done part, low)
+    pub block_other : (n ≡ 0 → ⊥) → (e : SealError) (place : Place) (scratch : List ℕ) → BlockCompared parts at (take n block) (Err e) place scratch → (first : World) → SameSoFar d text at first mid → ListBack d text (Err e) first new
+    block_other some (Byte q here there) place scratch o first s =
+        back_other d text at first mid new s want (take n block) (take (length (take n block)) (drop at text)) q here there p (omega (arith, some, few)) within (omega (arith, long, few)) refl
+        (omega (arith, length-take (length (take n block)) (drop at text), length-drop at text, long, few, within)) o
+    block_other some DriveFailed place scratch o first s = absurd o
+    block_other some Absent place scratch o first s = absurd o
+    block_other some (Length written read) place scratch o first s = absurd o
 
-      long : length (take n block) ≡ n
-      long = omega (arith, length-take n block, few, room)
+    pub block_more : (n ≡ 0 → ⊥) → (place : Place) (scratch : List ℕ) → BlockCompared parts at (take n block) (Ok tt) place scratch → BlockBack d parts at (Ok n) place scratch mid new
+    block_more some place scratch c = (
+      omega (arith, some),
+      c.1,
+      c.2 ∙ ap (λ k. at + k) long,
+      omega (arith, few, within),
+      λ first s. subst (λ k. SameSoFar d text (at + k) first new) long (same_more d text at want (take n block) first mid new s p (omega (arith, some, long)) within c.0),
+    )
 
-      written_long : length (take n rest) ≡ length (take n block)
-      written_long = omega (arith, length-take n rest, long, few)
-
-      stands : (text : List ℕ) → part ≡ take (length part) (drop at text) → take n rest ≡ take (length (take n block)) (drop (at + done) text)
-      stands text is = ap (take n) rest_is ∙ piece_stands text part at done n is (omega (arith, few, within)) ∙ ap (λ k. take k (drop (at + done) text)) (sym long)
-
-      pub part_other : (e : SealError) → Compared (at + done) (take n rest) (take n block) (Err e) → PartBack d total at part (Err e) old new
-      part_other (Byte place here there) o = λ text first size is s.
-          back_other d text (at + done) first mid new (so_far text first size is s) (length rest) (take n block) (take n rest) place here there p (omega (arith, some, few)) (omega (arith, size, within, inside)) (omega (arith, long, few)) (stands text is) written_long o
-      part_other DriveFailed o = absurd o
-      part_other Absent o = absurd o
-      part_other (Length written read) o = absurd o
-
-      pub part_more : take n block ≡ take n rest → PartSoFar d total at part (done + n) old new
-      part_more same = λ text first size is s.
-          let more = same_more d text (at + done) (length rest) (take n block) first mid new (so_far text first size is s) p (omega (arith, long, some)) (omega (arith, size, within, inside)) (same ∙ stands text is) in
-          let there : at + done + length (take n block) ≡ at + (done + n) = omega (arith, long) in
-          subst (λ k. SameSoFar d text k first new) there more
-
-      pub part_within : done + n ≤ length part
-      part_within = omega (arith, within, few)
+  pub block_stopped : (want : ℕ) (e : SealError) → NoPiece d at want e mid new → 0 < want → at + want ≤ length text → (first : World) → SameSoFar d text at first mid → ListBack d text (Err e) first new
+  block_stopped want e h some within first s = back_stopped d text at first mid new s want e h (some, inl within)
 
 -- ---- the whole list
 
-pub list_back : (d : ℕ) (parts : List (List ℕ)) (total at k : ℕ) (result : Result Unit SealError) (old mid new : World) → SameSoFar d (joined parts) at old mid → total ≡ length (joined parts) → at ≡ length (joined (take k parts)) → length parts ≤ k →
-    MatchResult result (λ _. PieceRead d new_path total 1 (Some []) mid new) (λ e. NotEnded d total e mid new) → ListBack d (joined parts) result old new
-list_back d parts total at k result old mid new s size here all asked =
-    let end : at ≡ length (joined parts) = here ∙ ap (λ (l : List (List ℕ)). length (joined l)) (take_all k parts all) in
-    by result (subst (λ n. SameSoFar d (joined parts) n old mid) end s) asked
+pub list_back : (d : ℕ) (text : List ℕ) (total at : ℕ) (result : Result Unit SealError) (old mid new : World) → SameSoFar d text at old mid → total ≡ length text → at ≡ length text →
+    MatchResult result (λ _. PieceRead d new_path total 1 (Some []) mid new) (λ e. NotEnded d total e mid new) → ListBack d text result old new
+list_back d text total at result old mid new s size end asked = by result (subst (λ n. SameSoFar d text n old mid) end s) asked
   where
-    by : (result : Result Unit SealError) → SameSoFar d (joined parts) (length (joined parts)) old mid → MatchResult result (λ _. PieceRead d new_path total 1 (Some []) mid new) (λ e. NotEnded d total e mid new) → ListBack d (joined parts) result old new
-    by (Ok done) s p = back_good d (joined parts) old mid new s (subst (λ n. PieceRead d new_path n 1 (Some []) mid new) size p)
-    by (Err e) s h = back_not_ended d (joined parts) old mid new s e (subst (λ n. NotEnded d n e mid new) size h)
+    by : (result : Result Unit SealError) → SameSoFar d text (length text) old mid → MatchResult result (λ _. PieceRead d new_path total 1 (Some []) mid new) (λ e. NotEnded d total e mid new) → ListBack d text result old new
+    by (Ok done) s p = back_good d text old mid new s (subst (λ n. PieceRead d new_path n 1 (Some []) mid new) size p)
+    by (Err e) s h = back_not_ended d text old mid new s e (subst (λ n. NotEnded d n e mid new) size h)

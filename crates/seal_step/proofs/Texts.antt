@@ -1,8 +1,9 @@
 -- The parts of a list, and where each stands in its text.
-use Rattle.std.proofs.Common.{◌≡◌, ℕ, zero, suc, ◌+◌, ◌<◌, ◌≤◌, List, [], ◌∷◌, ◌++◌, length, map, take, drop, refl, sym, ap, ◌∙◌, arith, append_assoc, append-nil, length-append, add-one}
+use Rattle.std.proofs.Common.{◌≡◌, inl, inr, ℕ, zero, suc, ◌+◌, ◌<◌, ◌≤◌, List, [], ◌∷◌, ◌++◌, length, map, take, drop, refl, sym, ap, ◌∙◌, arith, append_assoc, append-nil, length-append, add-one}
 use Rattle.std.specs.Prelude.{slice_index_or, Some}
+use Rattle.std.proofs.lemmas.Bool.{cases_eq}
 use Rattle.std.specs.List.{flat_map, slice_get}
-use Rattle.std.proofs.lemmas.List.{length-map}
+use Rattle.std.proofs.lemmas.List.{length-map, take_all}
 use Rattle.mhl_writer.specs.declared.values.HashEntry.{HashEntry}
 use Rattle.mhl_writer.specs.ListText.{entry_text, tail_text, head_text}
 use Rattle.path_text.specs.declared.kinds.Kinds.{Kinds}
@@ -123,3 +124,26 @@ take_more (p ∷ ps) (suc k) in_it = ap (λ (t : List (List ℕ)). p ∷ t) (tak
 pub joined_next : (ps : List (List ℕ)) (k : ℕ) → k < length ps → length (joined (take (k + 1) ps)) ≡ length (joined (take k ps)) + length (slice_index_or ps k [])
 joined_next ps k in_it =
     ap (λ n. length (joined (take n ps))) (add-one k) ∙ ap (λ (t : List (List ℕ)). length (joined t)) (take_more ps k in_it) ∙ ap (λ (t : List ℕ). length t) (joined_more (take k ps) (slice_index_or ps k [])) ∙ length-append (joined (take k ps)) (slice_index_or ps k [])
+
+-- ---- no part is empty
+
+some_at : (es : List HashEntry) (k : ℕ) → k < length (map entry_text es ++ tail_text ∷ []) → 0 < length (slice_index_or (map entry_text es ++ tail_text ∷ []) k [])
+unfolding entry_text
+some_at [] zero in_it = omega arith
+some_at [] (suc k) in_it = absurd (omega (arith, in_it))
+some_at (e ∷ es) zero in_it = omega arith
+some_at (e ∷ es) (suc k) in_it = some_at es k (omega (arith, in_it))
+
+pub some_part : (p : PlanValue) (recs : List Rec) (finish k : ℕ) → k < length (list_parts p recs finish) → 0 < length (slice_index_or (list_parts p recs finish) k [])
+unfolding list_parts
+some_part p recs finish zero in_it = omega arith
+some_part p recs finish (suc k) in_it = some_at (sealed_entries p.kinds p.files recs) k (omega (arith, in_it))
+
+-- behind a part that does not end the text there is another
+pub part_behind : (ps : List (List ℕ)) (k : ℕ) → k < length ps → length (joined (take k ps)) + length (slice_index_or ps k []) < length (joined ps) → k + 1 < length ps
+part_behind ps k in_it more =
+    let next = joined_next ps k in_it in
+    elim (cases_eq (k + 1) (length ps)) [
+      | inl last ↦ let end = ap (λ (l : List (List ℕ)). length (joined l)) (take_all (k + 1) ps (omega (arith, last))) in absurd (omega (arith, next, end, more))
+      | inr differ ↦ omega (arith, differ, in_it)
+    ]

@@ -1,5 +1,5 @@
 -- Pieces of a list that are read into a block and compared with the text.
-use Rattle.std.specs.Prelude.{◌≡◌, ◌≢◌, ℕ, ◌+◌, ◌<◌, false, List, [], ◌∷◌, length, take, drop, slice_index, Some, None, Result, Ok, Err}
+use Rattle.std.specs.Prelude.{◌≡◌, ◌≢◌, ℕ, ◌+◌, ◌<◌, ◌≤◌, false, List, [], ◌∷◌, length, take, drop, slice_index, slice_index_or, Some, None, Result, Ok, Err}
 use Rattle.std.specs.List.{AllByRecursion}
 use Rattle.bay_core.specs.declared.event.Event.TheVariants.{DriveRead}
 use Rattle.bay_core.specs.declared.event.DriveGot.TheVariants.{Failed}
@@ -11,6 +11,8 @@ use Rattle.file_reading.specs.Reads.{PieceRead, SoFar}
 use Rattle.read_back.specs.Back.{IsPiece}
 use Rattle.seal_step.specs.declared.error.SealError.{SealError}
 use Rattle.seal_step.specs.declared.error.SealError.TheVariants.{DriveFailed, Absent, Byte, Length}
+use Rattle.seal_step.specs.declared.reading.Place.{Place}
+use Rattle.seal_step.specs.Parts.{joined}
 use Rattle.seal_step.specs.Reading.{ListBack}
 
 -- one read that gave no piece: it failed, seen or not, or was answered that there is no such file
@@ -48,7 +50,25 @@ pub record SameSoFar (d : ℕ) (text : List ℕ) (at : ℕ) (old new : World) : 
   pub here : at ≡ length bytes
   pub same : bytes ≡ take at text
 
--- a part of the text that stands at this place was read behind the pieces so far
-abbrev pub PartBack : ℕ → ℕ → ℕ → List ℕ → Result Unit SealError → World → World → Type 0
-PartBack d total at part (Ok _) old new = (text : List ℕ) (first : World) → length text ≡ total → part ≡ take (length part) (drop at text) → SameSoFar d text at first old → SameSoFar d text (at + length part) first new
-PartBack d total at part (Err e) old new = (text : List ℕ) (first : World) → length text ≡ total → part ≡ take (length part) (drop at text) → SameSoFar d text at first old → ListBack d text (Err e) first new
+-- a part of these is in the scratch, and it has so many bytes at least
+pub record Stands (parts : List (List ℕ)) (place : Place) (scratch : List ℕ) : Type 0 where
+  pub there : place.part < length parts
+  pub is : scratch ≡ slice_index_or parts place.part []
+  pub within : place.done ≤ length scratch
+  pub fits : length scratch ≤ 8192
+
+-- the place in the text
+abbrev pub place_of : List (List ℕ) → Place → ℕ
+place_of parts place = length (joined (take place.part parts)) + place.done
+
+-- what comparing bytes with the text that follows at a place answers
+abbrev pub BlockCompared : List (List ℕ) → ℕ → List ℕ → Result Unit SealError → Place → List ℕ → Type 0
+BlockCompared parts at read (Ok _) place scratch = (read ≡ take (length read) (drop at (joined parts))) × Stands parts place scratch × (place_of parts place ≡ at + length read)
+BlockCompared parts at read (Err (Byte p here there)) place scratch = IsOther at (take (length read) (drop at (joined parts))) read p here there
+BlockCompared parts at read (Err _) place scratch = ⊥
+
+-- the next block was read behind the pieces so far, and compared
+abbrev pub BlockBack : ℕ → List (List ℕ) → ℕ → Result ℕ SealError → Place → List ℕ → World → World → Type 0
+BlockBack d parts at (Ok n) place scratch old new = (0 < n) × Stands parts place scratch × (place_of parts place ≡ at + n) × (at + n ≤ length (joined parts))
+    × ((first : World) → SameSoFar d (joined parts) at first old → SameSoFar d (joined parts) (at + n) first new)
+BlockBack d parts at (Err e) place scratch old new = (first : World) → SameSoFar d (joined parts) at first old → ListBack d (joined parts) (Err e) first new

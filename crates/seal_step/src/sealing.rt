@@ -25,7 +25,7 @@ use path_text::{Moment, Scratch};
 
 /// Seals a drive: writes the list of the plan, with one record for each of its files in their order, to a scratch file,
 /// settles it, reads it again, gives it its name (docs/FORMATS.md, "Lists"), and settles that. The text is never held
-/// whole: its parts are made in the scratch, once to be written and once to be compared, and are read into the block of
+/// whole: its parts are made in the scratch, once to be written and once to be compared with the blocks that are read into
 /// the slot. `DriveFailed` stands for any failed call, by the drive's count; another error is that of the first place from
 /// the front at which the list is not what was written. Takes no memory.
 pub fn seal<B: Bay>(

@@ -188,19 +188,19 @@ fn each_call_fails_once(rt: HostRuntime) -> Result<(), Fail> {
     let alloc = rt.alloc();
     let work = one(alloc, "a.mov", b"abc", MD5)?;
     let text = format!(in alloc; "{HEAD}{ABC}{TAIL}")?;
-    // Three parts are written, a barrier, three parts are read and one byte is asked for, the name, and a barrier. The
-    // images take a change that failed as done.
-    for n in 1..=11 {
+    // Three parts are written, a barrier, one read and one byte more asked for, the name, and a barrier. The images take
+    // a change that failed as done.
+    for n in 1..=9 {
         let mut bay = empty_drive(alloc, 9999)?;
         bay.fail_call(n)?;
-        let wanted = if n == 11 {
+        let wanted = if n == 9 {
             Ok(())
         } else {
             Err(SealError::DriveFailed)
         };
         assert_eq!(rt; answer(&rt, alloc, &mut bay, &work)?, wanted);
         let left = bay.image(0, usize::MAX, &[1])?;
-        let list = if n < 9 { None } else { Some(text.as_bytes()) };
+        let list = if n < 7 { None } else { Some(text.as_bytes()) };
         assert_eq!(rt; left.get(LIST), list, "at {n}");
     }
     Ok(())
