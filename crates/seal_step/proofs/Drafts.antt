@@ -1,7 +1,7 @@
 -- The writes of a list, one part behind another.
-use Rattle.std.proofs.Common.{◌≡◌, ℕ, ◌+◌, ◌<◌, ◌≤◌, Bool, true, false, List, [], ◌∷◌, ◌++◌, length, take, drop, refl, sym, ap, ◌∙◌, subst, arith, length-append, add-one}
+use Rattle.std.proofs.Common.{◌≡◌, ℕ, ◌+◌, ◌<◌, Bool, true, false, List, [], ◌∷◌, ◌++◌, length, take, drop, refl, sym, ap, ◌∙◌, subst, arith, length-append, add-one}
 use Rattle.std.specs.Prelude.{slice_index_or}
-use Rattle.std.proofs.lemmas.List.{take_all, take-append-drop}
+use Rattle.std.proofs.lemmas.List.{take-append-drop}
 use Rattle.bay_core.specs.declared.event.Event.{Event}
 use Rattle.bay_core.specs.Paths.{new_path}
 use Rattle.bay_core.specs.World.{World}
@@ -49,7 +49,3 @@ pub one_failed : (d : ℕ) (ps : List (List ℕ)) (n : ℕ) {old new : World} �
 one_failed d ps n {old} {new} t =
     subst (λ (cs : List (Bool → Event)). Tried d cs false old new) (sym (ap (writes_from d 0) (halves ps n) ∙ writes-append d 0 (take n ps) (drop n ps)))
     (tried_stopped d (writes_from d 0 (take n ps)) (writes_from d (0 + length (joined (take n ps))) (drop n ps)) t)
-
--- all of them
-pub all_written : (d : ℕ) (ps : List (List ℕ)) (n : ℕ) {old new : World} → length ps ≤ n → Tried d (writes_from d 0 (take n ps)) true old new → Tried d (writes_from d 0 ps) true old new
-all_written d ps n {old} {new} whole t = subst (λ (l : List (List ℕ)). Tried d (writes_from d 0 l) true old new) (take_all n ps whole) t

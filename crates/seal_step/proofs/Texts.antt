@@ -1,5 +1,5 @@
 -- The parts of a list, and where each stands in its text.
-use Rattle.std.proofs.Common.{◌≡◌, inl, inr, ℕ, zero, suc, ◌+◌, ◌<◌, ◌≤◌, List, [], ◌∷◌, ◌++◌, length, map, take, drop, refl, sym, ap, ◌∙◌, arith, append_assoc, append-nil, length-append, add-one}
+use Rattle.std.proofs.Common.{◌≡◌, inl, inr, ℕ, zero, suc, ◌+◌, ◌<◌, List, [], ◌∷◌, ◌++◌, length, map, take, drop, refl, sym, ap, ◌∙◌, arith, append_assoc, append-nil, length-append, add-one}
 use Rattle.std.specs.Prelude.{slice_index_or, Some}
 use Rattle.std.proofs.lemmas.Bool.{cases_eq}
 use Rattle.std.specs.List.{flat_map, slice_get}
@@ -106,14 +106,6 @@ part_stands ps k in_it =
 -- the same of a part that is known by its place
 pub stands_here : (ps : List (List ℕ)) (k at : ℕ) (part : List ℕ) → k < length ps → at ≡ length (joined (take k ps)) → part ≡ slice_index_or ps k [] → part ≡ take (length part) (drop at (joined ps))
 stands_here ps k at part in_it here is = is ∙ part_stands ps k in_it ∙ sym (λ i. take (length (is i)) (drop (here i) (joined ps)))
-
--- and ends within the text
-pub part_within : (ps : List (List ℕ)) (k : ℕ) → k < length ps → length (joined (take k ps)) + length (slice_index_or ps k []) ≤ length (joined ps)
-part_within ps k in_it =
-    let front = joined (take k ps) in
-    let part = slice_index_or ps k [] in
-    let rest = joined (drop (suc k) ps) in
-    omega (arith, ap (λ (t : List ℕ). length t) (split_at ps k in_it), length-append front (part ++ rest), length-append part rest)
 
 -- one part more
 pub take_more : (ps : List (List ℕ)) (k : ℕ) → k < length ps → take (suc k) ps ≡ take k ps ++ slice_index_or ps k [] ∷ []

@@ -1,4 +1,4 @@
-use Rattle.std.proofs.Common.{◌≡◌, arith}
+use Rattle.std.proofs.Common.{arith}
 use Rattle.std.proofs.lemmas.Result.{err_from_is_err_and}
 use Rattle.read_back.proofs.Copies.{same_block, block_twice}
 use Rattle.seal_step.specs.Parts.{list_parts}

@@ -1,4 +1,4 @@
-use Rattle.std.proofs.Common.{◌≡◌, ◌+◌, ◌<◌, ap, length, arith}
+use Rattle.std.proofs.Common.{◌+◌, ap, length, arith}
 use Rattle.seal_step.specs.Parts.{list_parts}
 use Rattle.seal_step.proofs.Texts.{joined_next, part_behind, some_part}
 use Rattle.seal_step.proofs.reading.refill.Goals as goal
