@@ -108,7 +108,7 @@ fn main(rt: HostRuntime) -> ExitCode {
 }
 PROGRAM
 cp "$here/../HANDLES" "$work"
-printf 'bay_core:\nbay_host: bay_core\nsample: bay_core bay_host\n' > "$work/crates.txt"
+printf 'bay_core: thiserror\nbay_host: bay_core\nsample: bay_core bay_host\n' > "$work/crates.txt"
 git -C "$work" init -q
 trace=
 if strace true 2> /dev/null; then trace="strace -f -qq --seccomp-bpf -e trace=%file -o $work/calls"; fi
