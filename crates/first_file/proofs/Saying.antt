@@ -14,7 +14,8 @@ use Rattle.copy_plan.specs.declared.file.PlannedFile.{PlannedFile}
 use Rattle.drive_journal.specs.declared.record.Rec.{Rec}
 use Rattle.fan_copier.specs.Copying.{NoPart}
 use Rattle.fan_copier.proofs.Keeping.{same_elsewhere}
-use Rattle.offload_law.specs.Lines.{announces, begun_text, done_text}
+use Rattle.report_text.specs.Run.{begun_text, done_text}
+use Rattle.offload_law.specs.Lines.{announces}
 use Rattle.offload_law.specs.Stages.{Begun, progress}
 use Rattle.offload_law.specs.Steps.{offload, IsNext}
 use Rattle.offload_law.proofs.Plans.{files_short}

@@ -14,7 +14,8 @@ use block_pool::{Pool, Slot};
 use drive_journal::{Gate, Rec};
 use path_text::{PathText, Scratch};
 use read_back::ReadBackError;
-use recording::{begin_on, begun_into, done_into, record_file};
+use recording::{begin_on, record_file};
+use report_text::{Line, line_into};
 
 /// Begins an offload of `count` files on a fresh drive, and says so (docs/FORMATS.md, "The journal", "Lines"). `journal` is
 /// the code of its plan and a closed gate. Ends at the first call that fails. Takes no memory.
@@ -37,7 +38,7 @@ pub fn begin_aloud<B: Bay>(
         Ok(()) => {}
         Err(_) => return Err(FirstFileError::Drive),
     }
-    begun_into(line, d, 0, count);
+    line_into(&Line::Begun(d, 0, u64::from(count)), line);
     match bay.say(line.bytes()) {
         Ok(()) => Ok(()),
         Err(_) => Err(FirstFileError::Output),
@@ -87,7 +88,11 @@ pub fn record_aloud<B: Bay>(
         Ok(_) => {}
         Err(found) => return Err(lost_by(found)),
     }
-    done_into(line, d, rec.index + 1, count, path);
+    let number = u64::from(rec.index) + 1;
+    line_into(
+        &Line::Done(d, number, u64::from(count), path.as_str()),
+        line,
+    );
     match bay.say(line.bytes()) {
         Ok(()) => Ok(()),
         Err(_) => Err(FirstFileError::Output),

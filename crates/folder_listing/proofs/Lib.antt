@@ -2,3 +2,4 @@ pub mod Texts
 pub mod Trees
 pub mod Marked
 pub mod Listed
+pub mod Crossed

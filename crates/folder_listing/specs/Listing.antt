@@ -1,5 +1,5 @@
 -- The files of a listing by path, and the marks on them.
-use Rattle.std.specs.Prelude.{◌≡◌, ℕ, Bool, false, ◌&&◌, ◌||◌, List, refl, is_some, unwrap_or, bytes_eq}
+use Rattle.std.specs.Prelude.{◌≡◌, ◌⊎◌, ℕ, Bool, true, false, ◌&&◌, ◌||◌, List, Option, refl, is_some, unwrap_or, bytes_eq}
 use Rattle.std.specs.List.{list_any}
 use Rattle.std.specs.FinMap.{FinMap, get, keys, from_entries, code}
 use Rattle.std.specs.Coded.{Coded, code_by, coded×, coded_ℕ, coded_bool, coded_list}
@@ -7,6 +7,7 @@ use Rattle.std.specs.Ordering.{nat_cmp}
 use Rattle.std.specs.Cmp.Lexicographic.{slice_cmp}
 use Rattle.bay_core.specs.declared.event.FileInfo.{FileInfo}
 use Rattle.bay_core.specs.Map.{sizes}
+use Rattle.path_text.specs.Path.{is_ancestor}
 
 -- sizes by path
 abbrev pub Sizes : Type 0
@@ -51,3 +52,11 @@ pub record Marks (path : List ℕ) (old new : Contents) : Type 0 where
 pub record IsMarkedAt (sizes : Sizes) (paths : List (List ℕ)) (c : Contents) : Type 0 where
   pub sizes_are : sizes_in c ≡ sizes
   pub marked : (q : List ℕ) → is_marked c q ≡ (list_any (bytes_eq q) paths && is_some (get sizes q))
+
+-- a listed name lies above the path or below it
+abbrev pub IsCrossed : (List ℕ → Option ℕ) → List ℕ → Type 0
+IsCrossed size path = (name : List ℕ) × (is_some (size name) ≡ true) × ((is_ancestor name path ≡ true) ⊎ (is_ancestor path name ≡ true))
+
+-- a listed name is the path, lies above it or lies below it
+abbrev pub IsTaken : (List ℕ → Option ℕ) → List ℕ → Type 0
+IsTaken size path = (name : List ℕ) × (is_some (size name) ≡ true) × ((name ≡ path) ⊎ ((is_ancestor name path ≡ true) ⊎ (is_ancestor path name ≡ true)))

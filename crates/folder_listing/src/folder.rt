@@ -1,8 +1,8 @@
-ghost use Rattle.std.specs.Prelude.{◌≡◌, ℕ, List, false, not, string_bytes, IfOk, OnOk};
+ghost use Rattle.std.specs.Prelude.{◌≡◌, ◌↔◌, ℕ, List, false, not, string_bytes, IsTrue, IfOk, OnOk};
 ghost use Rattle.std.specs.List.{filter};
 ghost use Rattle.std.specs.FinMap.{get, keys};
-ghost use Rattle.folder_listing.specs.Listing.{listing, sizes_in, is_marked, Marks};
-ghost use Rattle.folder_listing.specs.Tree.{Notes};
+ghost use Rattle.folder_listing.specs.Listing.{listing, sizes_in, is_marked, Marks, IsCrossed, IsTaken};
+ghost use Rattle.folder_listing.specs.Tree.{Notes, HasAbove};
 
 use bay_core::{FileInfo, NameText};
 use std::alloc::{AllocError, Global};
@@ -76,6 +76,36 @@ impl Folder {
         }
         Ok(names)
     }
+
+    /// Whether a listed name lies above a path or below it, over bytes; whether the path itself is listed does not
+    /// matter. In byte order the names below it stand side by side, from the path and a slash on, so one search finds
+    /// them; one look-up for each slash in the path finds those above it. The error is want of memory.
+    pub fn is_crossed(&self, alloc: Global, path: &str) -> Result<bool, AllocError>
+        ensures { IfOk result (λ crossed. IsTrue crossed ↔ IsCrossed (get (sizes_in self.now)) path.now) }
+    {
+        if has_above(&self.files, path) {
+            return Ok(true);
+        }
+        let mut below = String::new(alloc);
+        below.push_str(path)?;
+        below.push('/')?;
+        let Some((name, _)) = self.files.range(&below..).next() else {
+            return Ok(false);
+        };
+        Ok(name.as_bytes().starts_with(below.as_bytes()))
+    }
+
+    /// Whether a listed name is a path, lies above it or lies below it, over bytes: whether something stands in the
+    /// way of a file with this path. Names of all kinds count, also those that are no valid paths. The error is want
+    /// of memory.
+    pub fn is_taken(&self, alloc: Global, path: &str) -> Result<bool, AllocError>
+        ensures { IfOk result (λ taken. IsTrue taken ↔ IsTaken (get (sizes_in self.now)) path.now) }
+    {
+        if self.size(path).is_some() {
+            return Ok(true);
+        }
+        self.is_crossed(alloc, path)
+    }
 }
 
 // Notes a file that is not marked, unless there is one with its path.
@@ -85,4 +115,18 @@ fn note(files: &mut BTreeMap<String, Seen>, path: String, size: u64) -> Result<(
     let marked = false;
     files.entry(path)?.or_insert(Seen { size, marked });
     Ok(())
+}
+
+// Whether a file lies above a path: the paths above it are what is left of it before each of its slashes.
+fn has_above(files: &BTreeMap<String, Seen>, path: &str) -> bool
+    ensures { IsTrue result ↔ HasAbove files.now path.now }
+{
+    let mut rest = path;
+    while let Some((above, _)) = rest.rsplit_once("/") {
+        if files.contains_key(above) {
+            return true;
+        }
+        rest = above;
+    }
+    false
 }

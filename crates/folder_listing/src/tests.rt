@@ -77,3 +77,59 @@ fn names_without_a_mark_are_in_byte_order(rt: HostRuntime) -> Result<(), Fail> {
     assert_eq!(rt; lines(alloc, &left)?.as_str(), "B\nb/c\n");
     Ok(())
 }
+
+#[test]
+fn what_stands_in_the_way_is_found(rt: HostRuntime) -> Result<(), Fail> {
+    let alloc = rt.alloc();
+    let list = "A001_2014-10-24_120000.mhl";
+    // A listed name, a path, whether it is crossed, and whether it is taken.
+    let table = [
+        ("a", "a", false, true),
+        ("a", "a/b", true, true),
+        ("a/b", "a", true, true),
+        ("a/b", "a/b", false, true),
+        ("a", "ab", false, false),
+        ("ab", "a", false, false),
+        ("a-b", "a", false, false),
+        ("a/\n", "a", true, true),
+        ("a.mov/x\ny", "a.mov", true, true),
+        ("a.mov/x\ny", "a.mov/x", false, false),
+        ("A001_2014-10-24_120000.mhl", list, false, true),
+        ("A001_2014-10-24_120000.mhl/x", list, true, true),
+    ];
+    for (name, path, crossed, taken) in table {
+        let folder = Folder::of_files(alloc, listing(alloc, &[(name, 0)])?)?;
+        assert_eq!(rt;
+            folder.is_crossed(alloc, path)?,
+            crossed,
+            "{name:?} and {path:?}"
+        );
+        assert_eq!(rt;
+            folder.is_taken(alloc, path)?,
+            taken,
+            "{name:?} and {path:?}"
+        );
+    }
+    Ok(())
+}
+
+#[test]
+fn neighbours_in_byte_order_are_told_apart(rt: HostRuntime) -> Result<(), Fail> {
+    let alloc = rt.alloc();
+    let names = [("a", 1), ("a-b", 2), ("a/b/c", 3), ("a0", 4), ("ab", 5)];
+    let folder = Folder::of_files(alloc, listing(alloc, &names)?)?;
+    let table = [
+        ("a", true),
+        ("a-b", false),
+        ("a/b", true),
+        ("a-", false),
+        ("a0/x/y", true),
+        ("aa", false),
+        ("b", false),
+        ("", false),
+    ];
+    for (path, crossed) in table {
+        assert_eq!(rt; folder.is_crossed(alloc, path)?, crossed, "at {path:?}");
+    }
+    Ok(())
+}

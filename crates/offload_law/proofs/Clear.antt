@@ -14,7 +14,8 @@ use Rattle.bay_core.specs.Left.{Left}
 use Rattle.crash_law.specs.Protocol.{Protocol, State, IsIn, told_after, Announced}
 use Rattle.copy_plan.specs.Plan.{IsPlan}
 use Rattle.offload_law.specs.Clear.{IsSaid, IsTold, IsCalledSealed, AreCalledSealed}
-use Rattle.offload_law.specs.Lines.{sealed_text, Announces, announces}
+use Rattle.report_text.specs.Run.{sealed_text}
+use Rattle.offload_law.specs.Lines.{Announces, announces}
 use Rattle.offload_law.specs.Stages.{Offload, Stage, IsAt, IsAfter, IsAfterOn, IsOfCard, all_steps, progress}
 use Rattle.offload_law.specs.Steps.{offload}
 use Rattle.offload_law.proofs.Counted.{one_file_each}

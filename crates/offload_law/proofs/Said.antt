@@ -8,8 +8,8 @@ use Rattle.std.proofs.lemmas.Bool.{cond-true, cond-false}
 use Rattle.std.proofs.lemmas.Fmt.{decimal_injective}
 use Rattle.std.proofs.lemmas.List.{append_cancel_left}
 use Rattle.std.proofs.lemmas.Slice.Eq.{bytes_eq-Decides}
-use Rattle.offload_law.specs.Clear.{clear_text}
-use Rattle.offload_law.specs.Lines.{begun_text, done_text, sealed_text, IsShort, is_space, behind, number_behind, announces}
+use Rattle.report_text.specs.Run.{begun_text, done_text, sealed_text, clear_text}
+use Rattle.offload_law.specs.Lines.{IsShort, is_space, behind, number_behind, announces}
 use Rattle.offload_law.proofs.Fields.{decimal_no_space, value_decimal, field_before, last_field, field_after}
 
 -- a line of a drive, field by field

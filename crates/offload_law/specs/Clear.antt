@@ -1,14 +1,10 @@
 -- Which drives are called sealed, and when a card is called clear: docs/FORMATS.md, "Lines".
-use Rattle.std.specs.Prelude.{◌↔◌, ℕ, nat_eq, Bool, List, [], ◌∷◌, codes, decimal, Contains}
+use Rattle.std.specs.Prelude.{◌↔◌, ℕ, nat_eq, Bool, List, Contains}
 use Rattle.std.specs.List.{IsDistinct}
 use Rattle.bay_core.specs.declared.event.Event.{Event}
 use Rattle.bay_core.specs.declared.event.Event.TheVariants.{Say}
-use Rattle.report_text.specs.Line.{fields}
-use Rattle.offload_law.specs.Lines.{IsShort, Announces, sealed_text}
-
--- so many drives are sealed, of which so many are required
-abbrev pub clear_text : ℕ → ℕ → List ℕ
-clear_text drives required = fields (codes "clear") (decimal drives ∷ decimal required ∷ [])
+use Rattle.report_text.specs.Run.{sealed_text}
+use Rattle.offload_law.specs.Lines.{IsShort, Announces}
 
 -- a line is among these calls, whatever its answer
 abbrev pub IsSaid : List Event → List ℕ → Type 0

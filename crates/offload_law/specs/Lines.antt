@@ -1,21 +1,9 @@
 -- The lines that announce steps: docs/FORMATS.md, "Lines".
-use Rattle.std.specs.Prelude.{◌≡◌, ℕ, zero, suc, ◌^◌, ◌<◌, Bool, if◌then◌else◌, nat_eq, List, [], ◌∷◌, codes, decimal}
+use Rattle.std.specs.Prelude.{◌≡◌, ℕ, zero, suc, ◌^◌, ◌<◌, Bool, if◌then◌else◌, nat_eq, List}
 use Rattle.std.specs.List.{before_first, after_first}
 use Rattle.std.specs.Str.{bytes_eq}
 use Rattle.std.specs.Str.Parse.{digits_value}
-use Rattle.report_text.specs.Line.{fields}
-
--- the journal of drive d is settled with k records, of n files
-abbrev pub begun_text : ℕ → ℕ → ℕ → List ℕ
-begun_text d k n = fields (codes "begun") (decimal d ∷ decimal k ∷ decimal n ∷ [])
-
--- the record of this path is settled on drive d, as its k-th
-abbrev pub done_text : ℕ → ℕ → ℕ → List ℕ → List ℕ
-done_text d k n path = fields (codes "done") (decimal d ∷ decimal k ∷ decimal n ∷ path ∷ [])
-
--- the list is settled on drive d under its name
-abbrev pub sealed_text : ℕ → ℕ → List ℕ → List ℕ
-sealed_text d n list = fields (codes "sealed") (decimal d ∷ decimal n ∷ list ∷ [])
+use Rattle.report_text.specs.Run.{begun_text, done_text, sealed_text}
 
 -- a number of at most 64 digits, all of which `decimal` writes
 abbrev pub IsShort : ℕ → Type 0

@@ -11,7 +11,6 @@ use offload_law::steps_are_safe;
 
 mod beginning;
 mod filing;
-mod lines;
 #[cfg(test)]
 mod tests;
 #[cfg(test)]
@@ -19,7 +18,6 @@ mod worked_tests;
 
 pub use beginning::{begin_on, rejoin_on};
 pub use filing::record_file;
-pub use lines::{begun_into, done_into};
 
 /// A run that keeps to the steps on a drive leaves it, wherever it stops, with a prefix of them that holds every
 /// announced one, and at most one more. It may begin at any moment at which the drive is at rest, whatever was called

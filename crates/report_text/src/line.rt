@@ -1,17 +1,143 @@
-ghost use Rattle.std.specs.Prelude.{◌≡◌, ◌+◌, ◌≤◌, ◌++◌, [], ◌∷◌, length, decimal};
-ghost use Rattle.hex.specs.Hex.{encode_lower};
+ghost use Rattle.std.specs.Prelude.{◌≡◌, ◌≤◌, length};
 ghost use Rattle.report_text.specs.declared.line.Line.TheVariants.{Memory};
-ghost use Rattle.report_text.specs.Line.{fields, line_text, altered_size_text, unreadable_text, IsShort};
+ghost use Rattle.report_text.specs.Line.{line_text, IsSayable};
 
-use crate::fields::{add, add_digest, add_number, begin};
-use crate::table::{add_date, add_digest_column, begin_size, date_line, note_line};
-use path_text::{Moment, Scratch};
+use crate::losses::{failure_line, loss_line};
+use crate::refusals::{refusal_line, standing_line};
+use crate::report::report_line;
+use crate::run::run_line;
+use crate::table::table_line;
+use digest_set::Triple;
+use path_text::{Moment, PathError, Scratch};
 
 /// One line, by the fixed words of its form; the fields are the values of the form in its order.
 ///
-/// Sizes and lengths are bytes, a drive is its number in the order of the words, and a path stands last.
+/// Sizes and lengths are bytes, a drive and a job are their numbers in the order of the words, and a path stands last, but
+/// for the list name in the drive line of a rehearsal, which holds no space.
 #[derive(Clone, Copy, Debug)]
 pub enum Line<'a> {
+    /// `begun D K N`: the journal of the drive is settled, with K records of N files.
+    Begun(u32, u64, u64),
+    /// `done D K N PATH`: the record of the file is settled on the drive, as its K-th of N.
+    Done(u32, u64, u64, &'a str),
+    /// `sealed D N LIST`: the list of N files is settled on the drive under its name.
+    Sealed(u32, u64, &'a str),
+    /// `clear C COPIES`: C drives are sealed, of which COPIES are required.
+    Clear(u64, u64),
+    /// `unused D`: no file of the card goes to the drive.
+    Unused(u32),
+    /// `repaired PATH`: the file was replaced by a good one.
+    Repaired(&'a str),
+    /// `unrepaired PATH`: there was no good file to replace it by.
+    Unrepaired(&'a str),
+    /// `repair R repaired U unrepaired`: how many files were replaced, and how many not.
+    RepairRepairedUnrepaired(u64, u64),
+    /// `in job J`: the line before is of that job.
+    InJob(u32),
+    /// `jobclear J C COPIES`: of a job, what `clear` says of a card.
+    Jobclear(u32, u64, u64),
+    /// `rehearse NUMBER FILES`: what was rehearsed.
+    Rehearse(u64, u64),
+    /// `bytes SUM`: the bytes of the files of the rehearsed card.
+    Bytes(u64),
+    /// `drive D sealed LIST good`: a drive of the rehearsal is sealed by the list, and verified good.
+    DriveSealedGood(u32, &'a str),
+    /// `dropped D fault`: a call on the drive failed.
+    DroppedFault(u32),
+    /// `dropped D absent PATH`: the file, or the list by its name, was not there to be read back.
+    DroppedAbsent(u32, &'a str),
+    /// `dropped D length RECORDED READ PATH`: the file, or the list by its name, was read back with another length.
+    DroppedLength(u32, u64, u64, &'a str),
+    /// `dropped D altered RECORDED READ PATH`: it has other digests; each three are said as MD5, SHA-1, XXH64.
+    DroppedAltered(u32, &'a Triple, &'a Triple, &'a str),
+    /// `dropped D byte AT WRITTEN READ LIST`: the first byte of the list that was read back otherwise.
+    DroppedByte(u32, u64, u64, u64, &'a str),
+    /// `failed list absent LIST`: the list was not there to be read back.
+    FailedListAbsent(&'a str),
+    /// `failed list length WRITTEN READ LIST`: the list read back has another length.
+    FailedListLength(u64, u64, &'a str),
+    /// `failed list byte AT WRITTEN READ LIST`: its first byte that was read back otherwise.
+    FailedListByte(u64, u64, u64, &'a str),
+    /// `failed gone PATH`: a listed file was not there to be read.
+    FailedGone(&'a str),
+    /// `failed length LISTED READ PATH`: the file has another length than is listed.
+    FailedLength(u64, u64, &'a str),
+    /// `failed attach card`.
+    FailedAttachCard,
+    /// `failed attach drive D`.
+    FailedAttachDrive(u32),
+    /// `failed card`: a call on the card failed.
+    FailedCard,
+    /// `failed card changed LISTED READ PATH`: the file of the card has another length than is listed.
+    FailedCardChanged(u64, u64, &'a str),
+    /// `failed card altered md5 LISTED READ PATH`: the file has another MD5 than the list of its folder says.
+    FailedCardAlteredMd5([u8; 16], [u8; 16], &'a str),
+    /// `failed card altered sha1 LISTED READ PATH`.
+    FailedCardAlteredSha1([u8; 20], [u8; 20], &'a str),
+    /// `failed card altered xxhash64be LISTED READ PATH`.
+    FailedCardAlteredXxhash64be([u8; 8], [u8; 8], &'a str),
+    /// `failed drive`: a call on the drive failed.
+    FailedDrive,
+    /// `jobfailed J card`: a call on the card of a job failed.
+    JobfailedCard(u32),
+    /// `jobfailed J changed LISTED READ PATH`.
+    JobfailedChanged(u32, u64, u64, &'a str),
+    /// `jobfailed J altered md5 LISTED READ PATH`.
+    JobfailedAlteredMd5(u32, [u8; 16], [u8; 16], &'a str),
+    /// `jobfailed J altered sha1 LISTED READ PATH`.
+    JobfailedAlteredSha1(u32, [u8; 20], [u8; 20], &'a str),
+    /// `jobfailed J altered xxhash64be LISTED READ PATH`.
+    JobfailedAlteredXxhash64be(u32, [u8; 8], [u8; 8], &'a str),
+    /// `refused words`: the words fit no command.
+    RefusedWords,
+    /// `refused emptycard`: there is no file to copy.
+    RefusedEmptycard,
+    /// `refused toomanyfiles COUNT`.
+    RefusedToomanyfiles(u64),
+    /// `refused toomanybytes SUM`: the paths have too many bytes.
+    RefusedToomanybytes(u64),
+    /// `refused badpath INDEX CAUSE`: why the name of a listed file is no path, which is not want of memory.
+    RefusedBadpath(u64, &'a PathError),
+    /// `refused baddate PATH`: the file was changed after the year 9999.
+    RefusedBaddate(&'a str),
+    /// `refused control PATH`: a path of the control folder.
+    RefusedControl(&'a str),
+    /// `refused toobig PATH`.
+    RefusedToobig(&'a str),
+    /// `refused clash PATH`: it and the path of the next line stand in each other's way.
+    RefusedClash(&'a str),
+    /// `with PATH`: the second path of a clash.
+    With(&'a str),
+    /// `refused unsealed PATH`: the entry of the source's list says too little, or is of the list itself.
+    RefusedUnsealed(&'a str),
+    /// `refused sourcemissing PATH`: the source has no such file.
+    RefusedSourcemissing(&'a str),
+    /// `refused sourcesize LISTED FOUND PATH`.
+    RefusedSourcesize(u64, u64, &'a str),
+    /// `refused otherlist LIST`: the offload on the drives was not begun from this list.
+    RefusedOtherlist(&'a str),
+    /// `refused noroom PATH`: the first file that fits on no drive.
+    RefusedNoroom(&'a str),
+    /// `refused begun D`: an offload was begun on the drive.
+    RefusedBegun(u32),
+    /// `refused notajournal D AT`: the bytes of the journal hold none, by the place AT.
+    RefusedNotajournal(u32, u64),
+    /// `refused occupied D PATH`: something on the drive stands in the way of the path.
+    RefusedOccupied(u32, &'a str),
+    /// `refused nothingbegun`: no drive has a journal.
+    RefusedNothingbegun,
+    /// `refused plandiffers A B AT`: the first place where the codes of the plans on two drives differ.
+    RefusedPlandiffers(u32, u32, u64),
+    /// `refused carddiffers AT`: the first file of the card that is not as the plan says, from 0.
+    RefusedCarddiffers(u64),
+    /// `refused journalfalse D absent PATH`: a recorded file is not there.
+    RefusedJournalfalseAbsent(u32, &'a str),
+    /// `refused journalfalse D length RECORDED READ PATH`.
+    RefusedJournalfalseLength(u32, u64, u64, &'a str),
+    /// `refused journalfalse D altered RECORDED READ PATH`.
+    RefusedJournalfalseAltered(u32, &'a Triple, &'a Triple, &'a str),
+    /// `refused spandiffers D`: the plan on the drive is not of the same span.
+    RefusedSpandiffers(u32),
     /// `missing PATH`: a listed file is not there.
     Missing(&'a str),
     /// `unchecked PATH`: the list has no digest of the file that is checked.
@@ -28,12 +154,6 @@ pub enum Line<'a> {
     AlteredXxhash64be([u8; 8], [u8; 8], &'a str),
     /// `verdict V E entries M missing A altered U unchecked X unlisted`, V being `good`, `bad` or `unchecked`.
     Verdict(&'a str, u64, u64, u64, u64, u64),
-    /// `refused words`: the words fit no command.
-    RefusedWords,
-    /// `failed attach drive D`.
-    FailedAttachDrive(u32),
-    /// `failed drive`: a call on the drive failed.
-    FailedDrive,
     /// `unreadable absent`: the list is not there.
     UnreadableAbsent,
     /// `unreadable toolarge LEN`.
@@ -76,247 +196,21 @@ pub fn memory_line() -> &'static [u8]
     b"memory"
 }
 
-// A line of its fixed words and a path.
-fn with_path(out: &mut Scratch, words: &[u8], path: &str)
-    requires words { length words.now ≤ 32 }
-    requires path { length path.now ≤ 1024 }
-    ensures text { out.new ≡ fields words.now (path.now ∷ []) }
-    ensures len { length out.new ≤ 2048 }
-{
-    begin(out, words);
-    add(out, path.as_bytes());
-}
-
-// A line of its fixed words and a number.
-fn with_number(out: &mut Scratch, words: &[u8], number: u64)
-    requires { length words.now ≤ 32 }
-    ensures text { out.new ≡ fields words.now (decimal number ∷ []) }
-    ensures len { length out.new ≤ 2048 }
-{
-    begin(out, words);
-    add_number(out, number);
-}
-
-// A line of the fault of a list and its place.
-fn unreadable(out: &mut Scratch, what: &str, at: u64)
-    requires { length what.now ≤ 1024 }
-    ensures text { out.new ≡ unreadable_text what.now at }
-    ensures len { length out.new ≤ 2048 }
-{
-    begin(out, b"unreadable");
-    add(out, what.as_bytes());
-    add_number(out, at);
-}
-
-fn altered_size(out: &mut Scratch, listed: u64, found: u64, path: &str)
-    requires { length path.now ≤ 1024 }
-    ensures text { out.new ≡ altered_size_text listed found path.now }
-    ensures len { length out.new ≤ 2048 }
-{
-    begin(out, b"altered size");
-    add_number(out, listed);
-    add_number(out, found);
-    add(out, path.as_bytes());
-}
-
-// A line of its fixed words, two digests and a path.
-fn altered_digest(out: &mut Scratch, words: &[u8], listed: &[u8], found: &[u8], path: &str)
-    requires words { length words.now ≤ 32 }
-    requires listed { length listed.now ≤ 20 }
-    requires found { length found.now ≤ 20 }
-    requires path { length path.now ≤ 1024 }
-    ensures text { out.new ≡ fields words.now (encode_lower listed.now ∷ encode_lower found.now ∷ path.now ∷ []) }
-    ensures len { length out.new ≤ 2048 }
-{
-    begin(out, words);
-    add_digest(out, listed);
-    add_digest(out, found);
-    add(out, path.as_bytes());
-}
-
-// A number of a verdict, and what it counts.
-fn count(out: &mut Scratch, number: u64, what: &[u8])
-    requires room { length out.old ≤ 1900 }
-    requires what { length what.now ≤ 32 }
-    ensures text { out.new ≡ out.old ++ 32 ∷ decimal number ++ 32 ∷ what.now }
-    ensures len { length out.new ≤ length out.old + length what.now + 22 }
-{
-    add_number(out, number);
-    add(out, what);
-}
-
-/// Leaves the text of a line in `out`, without its line feed. No line has more than 2,048 bytes.
+/// Leaves the text of a line in `out`, without its line feed (docs/FORMATS.md, "Lines"). Each text in the line has at most
+/// 1,024 bytes, and a cause is not want of memory. No line has more than 2,048 bytes.
 pub fn line_into(line: &Line<'_>, out: &mut Scratch)
-    requires { IsShort line.now }
+    requires { IsSayable line.now }
     ensures text { out.new ≡ line_text line.now }
     ensures short { length out.new ≤ 2048 }
 {
-    match line {
-        Line::Missing(path) => with_path(out, b"missing", path),
-        Line::Unchecked(path) => with_path(out, b"unchecked", path),
-        Line::Unlisted(path) => with_path(out, b"unlisted", path),
-        Line::AlteredSize(listed, found, path) => altered_size(out, *listed, *found, path),
-        Line::AlteredMd5(listed, found, path) => {
-            altered_digest(out, b"altered md5", listed, found, path)
-        }
-        Line::AlteredSha1(listed, found, path) => {
-            altered_digest(out, b"altered sha1", listed, found, path)
-        }
-        Line::AlteredXxhash64be(listed, found, path) => {
-            altered_digest(out, b"altered xxhash64be", listed, found, path)
-        }
-        Line::Verdict(word, entries, missing, altered, unchecked, unlisted) => {
-            begin(out, b"verdict");
-            add(out, word.as_bytes());
-            count(out, *entries, b"entries");
-            count(out, *missing, b"missing");
-            count(out, *altered, b"altered");
-            count(out, *unchecked, b"unchecked");
-            count(out, *unlisted, b"unlisted");
-        }
-        Line::RefusedWords => begin(out, b"refused words"),
-        Line::FailedAttachDrive(d) => with_number(out, b"failed attach drive", u64::from(*d)),
-        Line::FailedDrive => begin(out, b"failed drive"),
-        Line::UnreadableAbsent => begin(out, b"unreadable absent"),
-        Line::UnreadableToolarge(len) => with_number(out, b"unreadable toolarge", *len),
-        Line::UnreadableVersion => begin(out, b"unreadable version"),
-        Line::Unreadable(what, at) => unreadable(out, what, *at),
-        Line::Name(note) => note_line(out, b"name", note),
-        Line::Username(note) => note_line(out, b"username", note),
-        Line::Hostname(note) => note_line(out, b"hostname", note),
-        Line::Tool(note) => note_line(out, b"tool", note),
-        Line::Startdate(moment) => date_line(out, b"startdate", moment),
-        Line::Finishdate(moment) => date_line(out, b"finishdate", moment),
-        Line::Entry(size, modified, md5, sha1, xxh, path) => {
-            begin_size(out, size);
-            add_date(out, modified);
-            add_digest_column(out, md5);
-            add_digest_column(out, sha1);
-            add_digest_column(out, xxh);
-            add(out, path.as_bytes());
-        }
-        Line::Entries(count) => with_number(out, b"entries", *count),
-        Line::Memory => begin(out, b"memory"),
-    }
-}
-
-#[cfg(test)]
-mod tests {
-    use super::*;
-    use std::process::Abort;
-    use std::test::Fail;
-
-    // The digests of `abc` and of the empty text.
-    const ABC: [u8; 16] = [
-        0x90, 0x01, 0x50, 0x98, 0x3c, 0xd2, 0x4f, 0xb0, 0xd6, 0x96, 0x3f, 0x7d, 0x28, 0xe1, 0x7f,
-        0x72,
-    ];
-
-    const EMPTY: [u8; 16] = [
-        0xd4, 0x1d, 0x8c, 0xd9, 0x8f, 0x00, 0xb2, 0x04, 0xe9, 0x80, 0x09, 0x98, 0xec, 0xf8, 0x42,
-        0x7e,
-    ];
-
-    fn says(rt: &impl Abort, out: &mut Scratch, line: &Line<'_>, text: &str)
-        requires { IsShort line.now }
+    if run_line(line, out)
+        || loss_line(line, out)
+        || failure_line(line, out)
+        || refusal_line(line, out)
+        || standing_line(line, out)
+        || table_line(line, out)
     {
-        line_into(line, out);
-        assert_eq!(rt; out.bytes(), text.as_bytes(), "at {text:?}");
+        return;
     }
-
-    #[test]
-    fn says_each_line(rt: HostRuntime) -> Result<(), Fail> {
-        let mut out = Scratch::new(rt.alloc())?;
-        says(&rt, &mut out, &Line::Missing("a.mov"), "missing a.mov");
-        says(
-            &rt,
-            &mut out,
-            &Line::Unchecked("b c.mov"),
-            "unchecked b c.mov",
-        );
-        says(
-            &rt,
-            &mut out,
-            &Line::Unlisted("Clips/d.mov"),
-            "unlisted Clips/d.mov",
-        );
-        says(
-            &rt,
-            &mut out,
-            &Line::AlteredSize(3, 0, "a.mov"),
-            "altered size 3 0 a.mov",
-        );
-        says(
-            &rt,
-            &mut out,
-            &Line::AlteredMd5(ABC, EMPTY, "s.mov"),
-            "altered md5 900150983cd24fb0d6963f7d28e17f72 d41d8cd98f00b204e9800998ecf8427e s.mov",
-        );
-        says(
-            &rt,
-            &mut out,
-            &Line::AlteredSha1([0xa9; 20], [0x01; 20], "t.mov"),
-            "altered sha1 a9a9a9a9a9a9a9a9a9a9a9a9a9a9a9a9a9a9a9a9 0101010101010101010101010101010101010101 t.mov",
-        );
-        says(
-            &rt,
-            &mut out,
-            &Line::AlteredXxhash64be(
-                [0xef, 0x46, 0xdb, 0x37, 0x51, 0xd8, 0xe9, 0x99],
-                [0; 8],
-                "u.mov",
-            ),
-            "altered xxhash64be ef46db3751d8e999 0000000000000000 u.mov",
-        );
-        says(&rt, &mut out, &Line::RefusedWords, "refused words");
-        says(
-            &rt,
-            &mut out,
-            &Line::FailedAttachDrive(0),
-            "failed attach drive 0",
-        );
-        says(&rt, &mut out, &Line::FailedDrive, "failed drive");
-        says(&rt, &mut out, &Line::UnreadableAbsent, "unreadable absent");
-        says(
-            &rt,
-            &mut out,
-            &Line::UnreadableToolarge(536_870_913),
-            "unreadable toolarge 536870913",
-        );
-        says(
-            &rt,
-            &mut out,
-            &Line::UnreadableVersion,
-            "unreadable version",
-        );
-        says(
-            &rt,
-            &mut out,
-            &Line::Unreadable("badpath", 30),
-            "unreadable badpath 30",
-        );
-        says(&rt, &mut out, &Line::Name(None), "name -");
-        says(&rt, &mut out, &Line::Memory, "memory");
-        assert_eq!(rt; memory_line(), b"memory".as_slice());
-        Ok(())
-    }
-
-    #[test]
-    fn says_verdicts(rt: HostRuntime) -> Result<(), Fail> {
-        let mut out = Scratch::new(rt.alloc())?;
-        says(&rt, &mut out, &Line::Name(None), "name -");
-        says(
-            &rt,
-            &mut out,
-            &Line::Verdict("good", 1, 0, 0, 0, 0),
-            "verdict good 1 entries 0 missing 0 altered 0 unchecked 0 unlisted",
-        );
-        says(
-            &rt,
-            &mut out,
-            &Line::Verdict("bad", 18_446_744_073_709_551_615, 1, 2, 30, 405),
-            "verdict bad 18446744073709551615 entries 1 missing 2 altered 30 unchecked 405 unlisted",
-        );
-        Ok(())
-    }
+    report_line(line, out);
 }

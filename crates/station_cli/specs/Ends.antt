@@ -7,7 +7,8 @@ use Rattle.bay_core.specs.Went.{Went, Only}
 use Rattle.bay_core.specs.Looks.{says}
 use Rattle.mhl_reader.specs.declared.error.ReadError.{ReadError}
 use Rattle.mhl_reader.specs.declared.error.ReadError.TheVariants.{NotUtf8, Malformed, Doctype, Cdata, Version, NoFile, Twice, BadPath, BadSize, BadDigest, TooMany, Memory as MemoryRead}
-use Rattle.report_text.specs.Line.{failed_attach_drive_text, unreadable_toolarge_text, unreadable_text}
+use Rattle.report_text.specs.Line.{unreadable_toolarge_text, unreadable_text}
+use Rattle.report_text.specs.Losses.{failed_attach_drive_text}
 use Rattle.verify_run.specs.declared.loading.LoadError.{LoadError}
 use Rattle.verify_run.specs.declared.loading.LoadError.TheVariants.{DriveFailed, Absent, TooLarge, Unreadable, Memory}
 use Rattle.verify_run.specs.declared.verdict.VerifyError.{VerifyError}

@@ -2,7 +2,7 @@
 ghost use Rattle.std.specs.Prelude.{◌≡◌, ◌≤◌, [], ◌∷◌, map, length, option_map, IfSome, MatchResult};
 ghost use Rattle.std.specs.List.{AllByRecursion};
 ghost use Rattle.mhl_writer.specs.ListText.{values_of};
-ghost use Rattle.report_text.specs.Line.{line_text, IsShort};
+ghost use Rattle.report_text.specs.Line.{line_text, IsSayable};
 ghost use Rattle.station_cli.specs.Table.{creator_rows, row_of, print_lines, Told, Untold};
 
 use bay_core::{Bay, Failed};
@@ -23,7 +23,7 @@ fn note(note: &Option<NoteText>) -> Option<&str>
 
 fn creator_rows(creator: &Creator) -> [Line<'_>; 6]
     ensures text { map line_text result ≡ creator_rows creator.now }
-    ensures short { AllByRecursion IsShort result }
+    ensures short { AllByRecursion IsSayable result }
 {
     [
         Line::Name(note(&creator.name)),
@@ -37,7 +37,7 @@ fn creator_rows(creator: &Creator) -> [Line<'_>; 6]
 
 fn row(entry: &HashEntry) -> Line<'_>
     ensures text { line_text result ≡ row_of entry.now }
-    ensures short { IsShort result }
+    ensures short { IsSayable result }
 {
     Line::Entry(
         entry.size,
@@ -51,7 +51,7 @@ fn row(entry: &HashEntry) -> Line<'_>
 
 // Says a line.
 fn say<B: Bay>(bay: &mut B, scratch: &mut Scratch, line: &Line<'_>) -> Result<(), Failed>
-    requires { IsShort line.now }
+    requires { IsSayable line.now }
     ensures { MatchResult result (λ _. Told (line_text line.now ∷ []) (B.world bay.old) (B.world bay.new)) (λ _. Untold (line_text line.now ∷ []) (B.world bay.old) (B.world bay.new)) }
 {
     line_into(line, scratch);
@@ -63,7 +63,7 @@ fn say<B: Bay>(bay: &mut B, scratch: &mut Scratch, line: &Line<'_>) -> Result<()
 
 // Says some lines, as far as they can be said.
 fn say_lines<B: Bay>(bay: &mut B, scratch: &mut Scratch, lines: &[Line<'_>]) -> Result<(), Failed>
-    requires { AllByRecursion IsShort lines.now }
+    requires { AllByRecursion IsSayable lines.now }
     ensures { MatchResult result (λ _. Told (map line_text lines.now) (B.world bay.old) (B.world bay.new)) (λ _. Untold (map line_text lines.now) (B.world bay.old) (B.world bay.new)) }
 {
     for line in lines {

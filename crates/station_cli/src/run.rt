@@ -1,6 +1,6 @@
 //! A run of the station, from its words to its status.
 ghost use Rattle.std.specs.Prelude.{◌≡◌, ◌<◌, ◌-◌, ◌^◌, ℕ, List, Some};
-ghost use Rattle.report_text.specs.Line.{line_text, IsShort};
+ghost use Rattle.report_text.specs.Line.{line_text, IsSayable};
 ghost use Rattle.station_cli.specs.Words.{command_of, drive_word};
 ghost use Rattle.station_cli.specs.Ends.{with_line, Ended, memory_end, fault_end, load_end, broken_end, outcome_status};
 ghost use Rattle.station_cli.specs.Runs.{Unchanged};
@@ -19,7 +19,7 @@ use verify_run::{LoadError, Outcome, VerifyError, load_list, verify};
 
 // Says the last line of a run, and answers its status, or 5 where the line could not be said.
 fn end<B: Bay>(bay: &mut B, scratch: &mut Scratch, line: &Line<'_>, status: u8) -> u8
-    requires { IsShort line.now }
+    requires { IsSayable line.now }
     ensures { Ended (with_line (line_text line.now) status) result (B.world bay.old) (B.world bay.new) }
 {
     line_into(line, scratch);

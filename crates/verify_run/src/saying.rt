@@ -4,7 +4,7 @@ ghost use Rattle.std.specs.List.{flat_map, AllByRecursion};
 ghost use Rattle.mhl_writer.specs.ListText.{has_digest};
 ghost use Rattle.bay_core.specs.Went.{Went};
 ghost use Rattle.bay_core.specs.Looks.{Here, Exactly, says};
-ghost use Rattle.report_text.specs.Line.{line_text, IsShort};
+ghost use Rattle.report_text.specs.Line.{line_text, IsSayable};
 ghost use Rattle.verify_run.specs.Calls.{Unsaid, LinesStopped, AnyMap};
 ghost use Rattle.verify_run.specs.Results.{DigestsOf, texts};
 ghost use Rattle.verify_run.specs.Report.{is_empty, standing, standing_by, unchecked_lines, entry_lines};
@@ -19,7 +19,7 @@ use report_text::{Line, line_into};
 
 /// Says a line.
 pub fn say<B: Bay>(bay: &mut B, scratch: &mut Scratch, line: &Line<'_>) -> Result<(), VerifyError>
-    requires { IsShort line.now }
+    requires { IsSayable line.now }
     ensures { (d : ℕ) → MatchResult result (λ _. Went (Here d) (Exactly (says (line_text line.now ∷ []))) (B.world bay.old) (B.world bay.new)) (λ e. Unsaid d e (B.world bay.old) (B.world bay.new)) }
 {
     line_into(line, scratch);
@@ -35,7 +35,7 @@ fn say_lines<B: Bay>(
     scratch: &mut Scratch,
     lines: &[Option<Line<'_>>],
 ) -> Result<bool, VerifyError>
-    requires { AllByRecursion (λ line. IfSome line IsShort) lines.now }
+    requires { AllByRecursion (λ line. IfSome line IsSayable) lines.now }
     ensures { (d : ℕ) → MatchResult result (λ any. (any ≡ not (is_empty (flat_map texts lines.now))) × Went (Here d) (Exactly (says (flat_map texts lines.now))) (B.world bay.old) (B.world bay.new)) (λ e. LinesStopped d AnyMap (λ _. flat_map texts lines.now) e (B.world bay.old) (B.world bay.new)) }
 {
     let mut any = false;

@@ -3,7 +3,8 @@ use Rattle.std.specs.Prelude.{decimal}
 use Rattle.std.specs.Str.{bytes_eq}
 use Rattle.std.proofs.lemmas.Bool.{cond_both}
 use Rattle.std.proofs.lemmas.Slice.Eq.{bytes_eq-Decides}
-use Rattle.offload_law.specs.Lines.{begun_text, done_text, sealed_text, Announces, begun, done, sealed, behind, number_behind, announces}
+use Rattle.report_text.specs.Run.{begun_text, done_text, sealed_text}
+use Rattle.offload_law.specs.Lines.{Announces, begun, done, sealed, behind, number_behind, announces}
 use Rattle.offload_law.proofs.Fields.{short_by_digits}
 use Rattle.offload_law.proofs.Plans.{files_short}
 use Rattle.offload_law.proofs.Said.{behind_begun, behind_done, behind_sealed, first_number, second_number, last_number, as_begun, as_done, as_sealed, from_sealed, from_done, begun_announces, done_announces, sealed_announces, other_word, clear_none, begun_elsewhere, done_elsewhere, sealed_elsewhere}
