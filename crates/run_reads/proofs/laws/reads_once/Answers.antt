@@ -1,0 +1,5 @@
+use Rattle.run_reads.proofs.Once.{once}
+use Rattle.run_reads.proofs.laws.reads_once.Goals as goal
+
+pub returns : goal.returns
+returns c = once

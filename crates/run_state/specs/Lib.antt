@@ -1,0 +1,6 @@
+pub mod State
+pub mod Copies
+pub mod Acts
+pub mod Turn
+pub mod Rules
+pub mod Runs

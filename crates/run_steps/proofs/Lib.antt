@@ -1,0 +1,10 @@
+pub mod Telling
+pub mod Lines
+pub mod Drives
+pub mod Still
+pub mod Scratch
+pub mod Ready
+pub mod Standing
+pub mod Own
+pub mod Keeping
+pub mod Whole
