@@ -157,3 +157,35 @@ fn a_begun_drive_is_tested_from_its_next_file_on(rt: HostRuntime) -> Result<(), 
     }
     Ok(())
 }
+
+#[test]
+fn one_listing_is_in_the_way_of_many_paths(rt: HostRuntime) -> Result<(), Fail> {
+    let alloc = rt.alloc();
+    let names = [
+        "a",
+        "a/b",
+        "ab",
+        "a/\n",
+        LIST,
+        "A001_2014-10-24_120000.mhl/x",
+    ];
+    // The one path of a plan, and what is refused on a fresh drive, and on one that was begun and has no record.
+    let table = [
+        ("a", "a", "a"),
+        ("a/b", "a/b", "a/b"),
+        ("a/c", "a/c", "a/c"),
+        ("ab", "ab", LIST),
+        ("ab/c", "ab/c", "ab/c"),
+        ("a-b", LIST, LIST),
+        ("abc", LIST, LIST),
+        ("b", LIST, LIST),
+    ];
+    for (path, fresh, begun) in table {
+        let plan = planned(alloc, &[path])?;
+        let refused = path_for(alloc, &plan, &names, None)?;
+        assert_eq!(rt; refused.as_str(), fresh, "{path:?}");
+        let refused = path_for(alloc, &plan, &names, Some(0))?;
+        assert_eq!(rt; refused.as_str(), begun, "{path:?}");
+    }
+    Ok(())
+}
