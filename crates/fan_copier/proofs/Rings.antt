@@ -1,7 +1,8 @@
 -- Slots that are taken for places and given back, and what a turn leaves of the pool.
-use Rattle.std.proofs.Common.{◌≡◌, ◌≢◌, ◌⊎◌, inl, inr, ℕ, zero, suc, ◌+◌, ◌≤◌, ◌<◌, Bool, true, false, List, [], ◌∷◌, length, slice_index_or, slice_set, refl, sym, ◌∙◌, ap, subst, arith, get_or-set_same, get_or-set_other}
+use Rattle.std.proofs.Common.{◌≡◌, ◌≢◌, ◌⊎◌, inl, inr, ℕ, zero, suc, ◌+◌, ◌≤◌, ◌<◌, Bool, true, false, List, [], ◌∷◌, ◌++◌, length, take, slice_index_or, slice_set, refl, sym, ◌∙◌, ap, subst, arith, get_or-set_same, get_or-set_other}
 use Rattle.std.proofs.lemmas.Bool.{cases_eq}
-use Rattle.std.specs.Prelude.{Option, Some, None, is_some, IfSome, IfNone}
+use Rattle.std.proofs.lemmas.List.{take_more}
+use Rattle.std.specs.Prelude.{Option, Some, None, is_some, IfSome, IfNone, if◌then◌else◌}
 use Rattle.block_pool.specs.Lent.{PoolState, is_lent, block_at, free_in, LendsOut, TakesBack}
 use Rattle.block_pool.specs.Lending.{with_block}
 use Rattle.fan_copier.specs.Ring.{cell, taken, IsOut, Owns, Readies, Gives, KeepsPool}
@@ -199,3 +200,21 @@ keeps_then compare first second third before mid after one two = record {
       (b.0, λ such. b.1 such ∙ a.1 such);
   out = λ k lent out. two.out k (one.spares k lent out).0 (one.out k lent out);
 }
+
+-- one place more
+taken_push : (ring : List (Option ℕ)) (o : Option ℕ) → taken (ring ++ o ∷ []) ≡ (if is_some o then taken ring + 1 else taken ring)
+taken_push [] None = refl
+taken_push [] (Some n) = refl
+taken_push (None ∷ ring) o = taken_push ring o
+taken_push (Some m ∷ ring) None = ap (λ (k : ℕ). k + 1) (taken_push ring None)
+taken_push (Some m ∷ ring) (Some n) = ap (λ (k : ℕ). k + 1) (taken_push ring (Some n))
+
+pub taken_next : (ring : List (Option ℕ)) (i : ℕ) (o : Option ℕ) (b : Bool) → i < length ring → b ≡ is_some (slice_index_or ring i o) → taken (take (i + 1) ring) ≡ (if b then taken (take i ring) + 1 else taken (take i ring))
+taken_next ring i o b low is =
+    ap taken (take_more ring i o low) ∙ taken_push (take i ring) (slice_index_or ring i o) ∙ ap (λ (x : Bool). if x then taken (take i ring) + 1 else taken (take i ring)) (sym is)
+
+-- no more slots than places
+pub taken_few : (ring : List (Option ℕ)) → taken ring ≤ length ring
+taken_few [] = omega arith
+taken_few (None ∷ ring) = let rest = taken_few ring in omega (arith, rest)
+taken_few (Some m ∷ ring) = let rest = taken_few ring in omega (arith, rest)

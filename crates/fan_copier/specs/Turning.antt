@@ -144,6 +144,12 @@ Nearer Going before after = after < before
 Nearer (Dropped d) before after = after < before
 Nearer result before after = Unit {0}
 
+-- a turn that lost a drive or the card is one in which its count rose
+abbrev pub TurnCause : ℕ → Turn → World → World → Type 0
+TurnCause s (Dropped d) old new = Rose (old.faults (Drive d)) (new.faults (Drive d))
+TurnCause s SourceFailed old new = Rose (old.faults (Source s)) (new.faults (Source s))
+TurnCause s result old new = Unit {0}
+
 -- the drives that go on: all but the one that was dropped
 abbrev pub GoOn : Turn → List Bool → List Bool → Type 0
 GoOn (Dropped d) before after = (has before d ≡ true) × (after ≡ slice_set before d false)

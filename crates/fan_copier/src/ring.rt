@@ -49,6 +49,19 @@ impl Ring {
         }
     }
 
+    /// How many places have a slot.
+    pub fn held(&self) -> u32
+        ensures { result ≡ taken self.now.slots }
+    {
+        let mut held = 0;
+        for slot in &self.slots {
+            if slot.is_some() {
+                held += 1;
+            }
+        }
+        held
+    }
+
     /// Gives all slots back.
     pub fn give_back(&mut self, pool: &mut Pool)
         requires { Owns self.old.slots pool.old }

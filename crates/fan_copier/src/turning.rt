@@ -5,7 +5,7 @@ ghost use Rattle.bay_core.specs.declared.event.Event.TheVariants.{Pick};
 ghost use Rattle.bay_core.specs.Map.{Map, content};
 ghost use Rattle.bay_core.specs.Paths.{part_path};
 ghost use Rattle.bay_core.specs.Replay.{Source, Drive, Picker};
-ghost use Rattle.bay_core.specs.World.{World, Steady};
+ghost use Rattle.bay_core.specs.World.{World, Rose, Steady};
 ghost use Rattle.bay_core.specs.Went.{Went, Called, Tried, Only, IsCall, write_call};
 ghost use Rattle.block_pool.specs.Lent.{PoolState, is_lent, free_in};
 ghost use Rattle.digest_set.specs.Fed.{AllFed, Md5Fed, Sha1Fed, XxhFed};
@@ -16,7 +16,7 @@ ghost use Rattle.fan_copier.specs.Ring.{taken, IsOut, Owns, KeepsPool, GivesAll}
 ghost use Rattle.fan_copier.specs.Standing.{IsAtStart, blocks_of, block_len, block_of};
 ghost use Rattle.fan_copier.specs.Reads.{AreAt, AreOn};
 ghost use Rattle.fan_copier.specs.Copying.{card_of, size_of, live_of, kept_of, slots_at_most, slots_of, standing, Has, HoldsBlocks, Copying, NoPart, PartBegins};
-ghost use Rattle.fan_copier.specs.Turning.{with_piece, with_read, dropped, ReadCalls, PastCalls, next_block, Touches, AreCopyCalls, Nearer, GoOn, turns_left, Turned, PutStands, WriteCalls, IsChanged};
+ghost use Rattle.fan_copier.specs.Turning.{with_piece, with_read, dropped, ReadCalls, PastCalls, next_block, Touches, AreCopyCalls, Nearer, GoOn, TurnCause, turns_left, Turned, PutStands, WriteCalls, IsChanged};
 ghost use Rattle.fan_copier.specs.declared.turn.Turn.TheVariants.{NoDrive};
 
 use crate::blocks::{PART, put_block, read_into};
@@ -169,6 +169,7 @@ impl FileCopy {
         ensures dropped { is_ok result ≡ false → standing self.new ≡ dropped (standing self.old) d }
         ensures pool { KeepsPool compare.now self.old.ring.slots self.new.ring.slots pool.old pool.new }
         ensures touches { (s : ℕ) (path : List ℕ) → Went (Only (Drive d)) (AreCopyCalls s path) (B.world bay.old) (B.world bay.new) }
+        ensures cause { is_ok result ≡ false → Rose ((B.world bay.old).faults (Drive d)) ((B.world bay.new).faults (Drive d)) }
         ensures has { (bytes : List ℕ) → Has self.old pool.old bytes → Has self.new pool.new bytes }
         ensures called { (bytes : List ℕ) → Has self.old pool.old bytes
             → Called (Drive d) (WriteCalls (has self.old.kept d) (has self.new.kept d) (is_ok result) d (block * 65536) (block_of bytes block)) (is_ok result) (B.world bay.old) (B.world bay.new) }
@@ -230,6 +231,7 @@ impl FileCopy {
         ensures nearer { Nearer result (turns_left (standing self.old)) (turns_left (standing self.new)) }
         ensures some { result ≢ NoDrive }
         ensures touches { Went (Touches self.old.source self.old.window.counts.live) (AreCopyCalls self.old.source path.now) (B.world bay.old) (B.world bay.new) }
+        ensures cause { TurnCause self.old.source result (B.world bay.old) (B.world bay.new) }
         ensures steady { (m : Map) → Steady (B.world bay.old) self.old.source m → length (content m path.now) ≡ self.old.size → IsChanged result → ⊥ }
         ensures turned { (bytes : List ℕ) → Copying self.old pool.old (B.world bay.old) bytes
             → Turned path.now self.old self.new pool.new (B.world bay.old) (B.world bay.new) bytes result }
@@ -285,6 +287,7 @@ impl FileCopy {
         ensures no_drive { result ≡ NoDrive → lowest (live_of self.old) ≡ None }
         ensures idle { lowest (live_of self.old) ≡ None → (result ≡ NoDrive) × (B.world bay.new ≡ B.world bay.old) × (pool.new ≡ pool.old) × (self.new ≡ self.old) }
         ensures touches { Went (Touches (card_of self.old) (live_of self.old)) (AreCopyCalls (card_of self.old) path.now) (B.world bay.old) (B.world bay.new) }
+        ensures cause { TurnCause (card_of self.old) result (B.world bay.old) (B.world bay.new) }
         ensures leaves { (d : ℕ) → Leaves d IsAny (OnlyAt (λ q. q ≡ part_path)) (B.world bay.old) (B.world bay.new) }
         ensures steady { (m : Map) → Steady (B.world bay.old) (card_of self.old) m → length (content m path.now) ≡ size_of self.old → IsChanged result → ⊥ }
         ensures turned { (d : ℕ) → has (live_of self.old) d ≡ true → (bytes : List ℕ) → Copying self.old pool.old (B.world bay.old) bytes
@@ -307,6 +310,13 @@ impl FileCopy {
         ensures { result ≡ live_of self.now }
     {
         self.window.live()
+    }
+
+    /// How many slots of the pool the copy has.
+    pub fn held(&self) -> u32
+        ensures { result ≡ taken (slots_of self.now) }
+    {
+        self.ring.held()
     }
 
     /// Ends the copy, and gives its slots back.

@@ -3,6 +3,7 @@ use Rattle.std.specs.Prelude.{Option, Ok, Err, IfNone, IfSome}
 use Rattle.bay_core.specs.Replay.{Source, Drive}
 use Rattle.bay_core.specs.World.{Attached}
 use Rattle.bay_core.specs.Went.{Called}
+use Rattle.bay_core.proofs.Runs.{rose_since}
 use Rattle.fan_core.proofs.Keeps.{act_read, act_write, waits}
 use Rattle.fan_copier.specs.Standing.{Standing, block_len}
 use Rattle.fan_copier.specs.Copying.{standing, Has}
@@ -148,3 +149,12 @@ pub returns-in-Err-read_past-clause-touches : goal.returns-in-Err-read_past-clau
 returns-in-Err-read_past-clause-touches g c =
     let s = c.args.self.now in
     touched s.source c.args.path.now c.ask-pick.result s.window.counts.live (Source s.source) (λ L t. past_copy s.source c.args.path.now s.size (Err c.in-Err-read_past.field-0) L t) c.ask-pick.ensures (inl refl) c.in-Err-read_past.ensures.called.went
+
+pub returns-in-Err-clause-cause : goal.returns-in-Err-clause-cause
+returns-in-Err-clause-cause g c = rose_since _ _ c.ask-pick.ensures.went (c.in-Err.ensures.called.cause refl)
+
+pub returns-in-Err-write_block-clause-cause : goal.returns-in-Err-write_block-clause-cause
+returns-in-Err-write_block-clause-cause g c = rose_since _ _ c.ask-pick.ensures.went (c.in-Err-write_block.ensures.cause refl)
+
+pub returns-in-Err-read_past-clause-cause : goal.returns-in-Err-read_past-clause-cause
+returns-in-Err-read_past-clause-cause g c = rose_since _ _ c.ask-pick.ensures.went (c.in-Err-read_past.ensures.called.cause refl)

@@ -82,3 +82,6 @@ returns-in-Ok-false-clause-touches g c = λ s path. went_such (λ L t. put_copy 
 
 pub returns-in-Err-clause-touches : goal.returns-in-Err-clause-touches
 returns-in-Err-clause-touches g c = λ s path. went_such (λ L t. put_copy s path c.has-keeps.result c.args.d (c.args.block * 65536) (take c.min-len.result (block_at c.args.pool.now c.slot.result.now)) (Err c.in-Err.failed) L t) c.in-Err.ensures.called.went
+
+pub returns-in-Err-clause-cause : goal.returns-in-Err-clause-cause
+returns-in-Err-clause-cause g c = λ failed. c.in-Err.ensures.called.cause failed
