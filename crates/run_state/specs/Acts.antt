@@ -27,7 +27,7 @@ use Rattle.fan_copier.specs.declared.copy.FileCopy.{FileCopy}
 use Rattle.fan_copier.specs.declared.turn.Turn.{Turn}
 use Rattle.fan_copier.specs.declared.turn.Turn.TheVariants.{Going as CopyGoes, Dropped, Copied, SourceFailed as CardFailed, Changed as CardChanged, NoDrive as NoneLeft}
 use Rattle.fan_copier.specs.Copying.{card_of, size_of, live_of, slots_at_most, Copying}
-use Rattle.fan_copier.specs.Turning.{Turned as CopyTurned, Touches, AreCopyCalls, GoOn, IsChanged}
+use Rattle.fan_copier.specs.Turning.{Turned as CopyTurned, Touches, AreCopyCalls, GoOn, TurnCause, IsChanged}
 use Rattle.offload_law.specs.Sealing.{plan_list_text}
 use Rattle.report_text.specs.Run.{begun_text, done_text, sealed_text, clear_text}
 use Rattle.report_text.specs.Losses.{dropped_fault_text, dropped_absent_text, dropped_length_text, dropped_altered_text, dropped_byte_text}
@@ -196,6 +196,7 @@ pub record CopyActed (o : Ordered) (i : ℕ) (copy : FileCopy) (old : Drives) (n
   pub same : (card_of next ≡ card_of copy) × (size_of next ≡ size_of copy) × (slots_at_most next ≡ slots_at_most copy)
   pub go_on : GoOn came (live_of copy) (live_of next)
   pub touches : Went (Touches (card_of copy) (live_of copy)) (AreCopyCalls (card_of copy) file.path) before mid
+  pub cause : TurnCause (card_of copy) came before mid
   pub steady : (m : Map) → Steady before (card_of copy) m → length (content m file.path) ≡ size_of copy → IsChanged came → ⊥
   pub turned : (bytes : List ℕ) → Copying copy pool before bytes → CopyTurned file.path copy next between before mid bytes came
   pub settles : CopySettles (files_of o.plan) i came next old new mid after
