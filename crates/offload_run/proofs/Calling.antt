@@ -20,9 +20,10 @@ use Rattle.run_state.specs.declared.phase.Phase.{Phase}
 use Rattle.run_state.specs.declared.phase.Phase.TheVariants.{Begins, File, Copies, Dates, Records, Seals, Clears, Ended}
 use Rattle.run_state.specs.Acts.{Says, BeginTurn, FileTurn, CopySettles, CopyActed, other_listed, DateTurn, RecordTurn, SealTurn, is_clear, ClearTurn}
 use Rattle.run_state.specs.Rules.{Fits, FitsCopy}
-use Rattle.run_state.specs.State.{Ordered, DriveAt, Gone, Fresh, Begun, Found, Sealed, Journaled, Drives, At, drive_at, due, count_sealed, files_of}
+use Rattle.run_state.specs.State.{Ordered, DriveAt, Gone, Fresh, Begun, Found, Sealed, Journaled, Drives, At, IsCalled, drive_at, due, count_sealed, files_of}
 use Rattle.run_state.specs.Turn.{Acted}
-use Rattle.offload_run.specs.Offload.{IsCalled, IsOfRun, AreAny}
+use Rattle.run_state.specs.Calls.{IsOfRun}
+use Rattle.offload_run.specs.Offload.{AreAny}
 
 -- a drive on which a file is due is called
 due_called : (i : ℕ) (x : DriveAt) → is_some (due i x) ≡ true → IsCalled x

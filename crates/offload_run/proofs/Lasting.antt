@@ -20,7 +20,8 @@ use Rattle.run_state.specs.Acts.{Puts, BeginTurn, MovesOrDrops, FileTurn, CopySe
 use Rattle.run_state.specs.Rules.{CanTurn, KeepsRunPool}
 use Rattle.run_state.specs.State.{Ordered, DriveAt, Gone, Fresh, Begun, Found, Sealed, Journaled, Drives, At, drive_at, is_gone, due, files_of}
 use Rattle.run_state.specs.Turn.{Acted}
-use Rattle.offload_run.specs.Offload.{IsOfRun, AreAny}
+use Rattle.run_state.specs.Calls.{IsOfRun}
+use Rattle.offload_run.specs.Offload.{AreAny}
 
 -- a drive on which a file is due is not gone
 due_there : (i : ℕ) (x : DriveAt) → is_some (due i x) ≡ true → is_gone x ≡ false

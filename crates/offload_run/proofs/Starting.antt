@@ -138,7 +138,6 @@ starts_of o at listed starts rules plan listed_is each sealed dropped phase outc
   };
   phase = phase;
   sets = (sealed, dropped);
-  unsealed = λ d is. absurd (false≢true (sym (none_sealed d) ∙ ap is_sealed is));
 }
   where
     long : length at.drives.each ≡ length starts

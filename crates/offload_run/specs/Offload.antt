@@ -1,7 +1,6 @@
 -- A run, as what is known of it between two turns: docs/MODEL.md, "Runs by turns".
 use Rattle.std.specs.Prelude.{◌≡◌, ◌≤◌, ℕ, Bool, List, [], length, map, option_map, slice_index_or, vec_capacity}
 use Rattle.bay_core.specs.declared.event.Event.{Event}
-use Rattle.bay_core.specs.Replay.{Device, Source, Drive, Attaching, Output, Clock, Picker}
 use Rattle.bay_core.specs.World.{World}
 use Rattle.copy_plan.specs.Plan.{PlanValue}
 use Rattle.drive_journal.specs.declared.order.DriveStart.{DriveStart}
@@ -61,21 +60,6 @@ pub record SaysOn (line : List ℕ) (next : Phase) (new : At) (before after : Wo
   pub said : Bool
   pub was_said : Says line said before after
   pub goes : Goes said next new
-
--- a turn may call the drive: it is fresh, or was begun and is not sealed
-abbrev pub IsCalled : DriveAt → Type 0
-IsCalled Fresh = Unit {0}
-IsCalled (Begun recs gate kept) = Unit {0}
-IsCalled _ = ⊥
-
--- the devices that a turn may call: the run's card, its drives that are fresh or begun, the output, the clock and the picker
-abbrev pub IsOfRun : Ordered → Drives → Device → Type 0
-IsOfRun o drives (Source s) = s ≡ o.source
-IsOfRun o drives (Drive d) = IsCalled (drive_at drives.each d)
-IsOfRun o drives Attaching = ⊥
-IsOfRun o drives Output = Unit {0}
-IsOfRun o drives Clock = Unit {0}
-IsOfRun o drives Picker = Unit {0}
 
 -- any calls
 abbrev pub AreAny : List Event → Type 0

@@ -1,9 +1,10 @@
 // The turns of a run.
 ghost use Rattle.std.specs.Prelude.{◌≡◌, ◌≢◌, ◌<◌, length};
 ghost use Rattle.bay_core.specs.Went.{Went};
+ghost use Rattle.run_state.specs.Calls.{IsOfRun};
 ghost use Rattle.run_state.specs.Rules.{Answers, CanTurn, IsNearer, IsRun, KeepsRunPool};
 ghost use Rattle.run_state.specs.Turn.{Turned};
-ghost use Rattle.offload_run.specs.Offload.{ordered_of, drives_of, stands_at, turns_left_of, AreAny, IsOfRun, IsStocked};
+ghost use Rattle.offload_run.specs.Offload.{ordered_of, drives_of, stands_at, turns_left_of, AreAny, IsStocked};
 
 use crate::Offload;
 use bay_core::Bay;

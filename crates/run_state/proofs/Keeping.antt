@@ -14,7 +14,7 @@ use Rattle.fan_core.specs.Flags.{has, lowest}
 use Rattle.fan_core.proofs.Keeps.{still_live}
 use Rattle.fan_core.proofs.Rules.{lowest_has, none_lowest}
 use Rattle.run_state.specs.declared.phase.Phase.TheVariants.{Begins, File, Records, Seals, Clears}
-use Rattle.run_state.specs.Acts.{Puts}
+use Rattle.run_state.specs.Acts.{Puts, other_listed}
 use Rattle.run_state.specs.Rules.{HasAtLeast, IsOver, AllHave, BegunBefore, IsSizeOf, Fits}
 use Rattle.run_state.specs.State.{Ordered, DriveAt, Gone, Fresh, Begun, Found, Sealed, Journaled, files_of, drive_at, due, IsDueNowhere, after_begin, after_file, after_record, after_seal}
 use Rattle.run_state.proofs.Drives.{same_or, none_past}
@@ -99,12 +99,12 @@ module _ (o : Ordered) (each : List DriveAt) (w : ℕ) (count : length each ≡ 
       }
 
   -- after a file was recorded on a drive
-  pub record_next : (rec : Rec) (d : ℕ) → 1 ≤ w → rec.index < files_of o.plan → IsSizeOf o.plan rec.index rec.size → ((k : ℕ) → k < suc d → HasAtLeast (suc rec.index) (drive_at each k)) → AllHave rec.index each
+  pub record_next : (rec : Rec) (d : ℕ) → 1 ≤ w → rec.index < files_of o.plan → IsSizeOf o.plan rec.index rec.size → other_listed o.listed rec.index rec.triple ≡ None → ((k : ℕ) → k < suc d → HasAtLeast (suc rec.index) (drive_at each k)) → AllHave rec.index each
       → Fits o each (after_record w (files_of o.plan) rec d)
-  record_next rec d some within sized before have = step (nat_lt (suc d) w) refl
+  record_next rec d some within sized agrees before have = step (nat_lt (suc d) w) refl
     where
       step : (b : Bool) → nat_lt (suc d) w ≡ b → Fits o each (if b then Records rec (suc d) else after_file (files_of o.plan) rec.index)
-      step true is = record { there = subst (λ (n : ℕ). suc d < n) (sym count) (less_if (suc d) w is); sized = sized; before = before; have = have }
+      step true is = record { there = subst (λ (n : ℕ). suc d < n) (sym count) (less_if (suc d) w is); sized = sized; agrees = agrees; before = before; have = have }
       step false is = file_next rec.index some within (all_of (HasAtLeast (suc rec.index)) w each d count (more_if (suc d) w is) tt before)
 
   -- after a drive was sealed

@@ -224,22 +224,23 @@ module _ (o : Ordered) (old new : At) (rules : IsRun o old) where
       step NoneLeft go s = absurd s
 
   -- the moment of a file was asked
-  date_run : (i : ℕ) (t : Triple) (before after : World) → Fits o old.drives.each (Dates i t) → (found : Option Listed) → DateTurn o i t found old.drives new before after → IsRun o new
-  date_run i t before after fits None a =
+  date_run : (i : ℕ) (t : Triple) (before after : World) → Fits o old.drives.each (Dates i t) → (found : Option Listed) → other_listed o.listed i t ≡ found → DateTurn o i t found old.drives new before after → IsRun o new
+  date_run i t before after fits None as_listed a =
       let rec : Rec = record { index = i; size = a.file.size; triple = t; hashed = a.seconds } in
       on o old new rules (same_fit a.drives) (Records rec 0) (λ e. absurd (cc e))
       (subst (λ (d : Drives). FitsRecord o d.each rec 0) (sym a.drives) (record {
         there = rules.drives.some;
         sized = size_at o.plan i a.file a.is_file;
+        agrees = as_listed;
         before = λ k early. absurd (omega (arith, early));
         have = fits.2;
       })) a.goes
-  date_run i t before after fits (Some l) a = over o old new rules (same_fit a.0) (Altered i l t) (λ e. absurd (cc e)) a.1
+  date_run i t before after fits (Some l) as_listed a = over o old new rules (same_fit a.0) (Altered i l t) (λ e. absurd (cc e)) a.1
 
   -- a file was recorded on a drive
   record_run : (rec : Rec) (d : ℕ) (before after : World) → FitsRecord o old.drives.each rec d → (found : Option Journaled) → due rec.index (drive_at old.drives.each d) ≡ found → RecordTurn o rec d found old.drives new before after → IsRun o new
   record_run rec d before after fits None is p = passes_run (after_record (length old.drives.each) (files_of o.plan) rec d) before after (record_open (length old.drives.each) (files_of o.plan) rec d)
-      (record_next o old.drives.each (length old.drives.each) refl rec d rules.drives.some (sized_within o.plan rec.index rec.size fits.sized) fits.sized
+      (record_next o old.drives.each (length old.drives.each) refl rec d rules.drives.some (sized_within o.plan rec.index rec.size fits.sized) fits.sized fits.agrees
       (before_next (HasAtLeast (suc rec.index)) d old.drives.each fits.before (not_due rec.index (drive_at old.drives.each d) is (fits.have d))) fits.have) p
   record_run rec d before after fits (Some was) is r = step r.came r.next r.stands
     where
@@ -259,7 +260,7 @@ module _ (o : Ordered) (old new : At) (rules : IsRun o old) where
       is_record = record { shape = r.shape; index = (let count = begun.1 in omega (arith, count)); size = same_size o.plan rec.index rec.size r.file fits.sized r.is_file }
 
       next_fits : (now : DriveAt) → HasAtLeast (suc rec.index) now → Puts d now old.drives.each new.drives.each → Fits o new.drives.each (after_record (length old.drives.each) (files_of o.plan) rec d)
-      next_fits now enough p = record_next o new.drives.each (length old.drives.each) p.count rec d rules.drives.some (sized_within o.plan rec.index rec.size fits.sized) fits.sized
+      next_fits now enough p = record_next o new.drives.each (length old.drives.each) p.count rec d rules.drives.some (sized_within o.plan rec.index rec.size fits.sized) fits.sized fits.agrees
           (puts_next (HasAtLeast (suc rec.index)) d now old.drives.each new.drives.each fits.before enough p)
           (puts_all (HasAtLeast rec.index) d now old.drives.each new.drives.each fits.have (fewer rec.index (suc rec.index) now (omega arith) enough) p)
 
@@ -308,7 +309,7 @@ module _ (o : Ordered) (old new : At) (rules : IsRun o old) where
   acted_run (Begins d) pool pool_after before after fits a = begin_run d before after fits (drive_at old.drives.each d) refl a
   acted_run (File i) pool pool_after before after fits a = file_run i before after fits a
   acted_run (Copies i copy) pool pool_after before after fits a = copy_run i copy pool pool_after before after fits a
-  acted_run (Dates i t) pool pool_after before after fits a = date_run i t before after fits (other_listed o.listed i t) a
+  acted_run (Dates i t) pool pool_after before after fits a = date_run i t before after fits (other_listed o.listed i t) refl a
   acted_run (Records rec d) pool pool_after before after fits a = record_run rec d before after fits (due rec.index (drive_at old.drives.each d)) refl a
   acted_run (Seals d) pool pool_after before after fits a = seal_run d before after fits (drive_at old.drives.each d) refl a
   acted_run Clears pool pool_after before after fits a = clear_run before after (count_sealed old.drives.each) (is_clear (count_sealed old.drives.each) o.copies) a.0 a.1
@@ -332,3 +333,14 @@ alone_runs o a b (turned {b = m} {c = n} before t) = turns (alone_runs o a m bef
 -- as a run is made
 pub start_bound : (o : Ordered) (at : At) → IsStart o at → left_at (length at.drives.each) o.plan at.phase ≤ bound (length at.drives.each) o.plan
 start_bound o at s = subst (λ (phase : Phase). left_at (length at.drives.each) o.plan phase ≤ bound (length at.drives.each) o.plan) (sym s.phase) (omega arith)
+
+-- until a run has ended
+pub left_some : (w : ℕ) (p : PlanValue) (phase : Phase) → phase ≢ Ended → 1 ≤ left_at w p phase
+left_some w p (Begins d) going = omega arith
+left_some w p (File i) going = omega arith
+left_some w p (Copies i copy) going = omega arith
+left_some w p (Dates i t) going = omega arith
+left_some w p (Records rec d) going = omega arith
+left_some w p (Seals d) going = omega arith
+left_some w p Clears going = omega arith
+left_some w p Ended going = absurd (going refl)

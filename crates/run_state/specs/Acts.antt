@@ -68,19 +68,19 @@ pub record Puts (d : ℕ) (now : DriveAt) (old new : List DriveAt) : Type 0 wher
   pub here : drive_at new d ≡ now
   pub others : (k : ℕ) → k ≢ d → drive_at new k ≡ drive_at old k
 
--- drive d stands so, and no line of the two sets was said
+-- drive d stands so, and the sets of the lines `sealed` and `dropped` are as before
 pub record Moves (d : ℕ) (now : DriveAt) (old new : Drives) : Type 0 where
   pub each : Puts d now old.each new.each
   pub sealed : new.sealed ≡ old.sealed
   pub dropped : new.dropped ≡ old.dropped
 
--- drive d was dropped: it is gone, and its line `dropped` was said
+-- drive d was dropped: it is gone, and its line `dropped` was said, or tried where the run ended by it
 pub record Drops (d : ℕ) (old new : Drives) : Type 0 where
   pub each : Puts d Gone old.each new.each
   pub sealed : new.sealed ≡ old.sealed
   pub dropped : new.dropped ≡ slice_set old.dropped d true
 
--- drive d is sealed, and its line `sealed` was said
+-- drive d is sealed, and its line `sealed` was said, or tried where the run ended by it
 pub record SealsDrive (d : ℕ) (old new : Drives) : Type 0 where
   pub each : Puts d Sealed old.each new.each
   pub sealed : new.sealed ≡ slice_set old.sealed d true

@@ -4,3 +4,5 @@ pub mod Acts
 pub mod Turn
 pub mod Rules
 pub mod Runs
+pub mod Calls
+pub mod Apart

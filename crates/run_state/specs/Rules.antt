@@ -20,6 +20,7 @@ use Rattle.run_state.specs.declared.outcome.RunTurn.{RunTurn}
 use Rattle.run_state.specs.declared.outcome.RunTurn.TheVariants.{Going as TurnGoing, Ended as TurnEnded}
 use Rattle.run_state.specs.declared.phase.Phase.{Phase}
 use Rattle.run_state.specs.declared.phase.Phase.TheVariants.{Begins, File, Copies, Dates, Records, Seals, Clears, Ended}
+use Rattle.run_state.specs.Acts.{other_listed}
 use Rattle.run_state.specs.State.{Ordered, DriveAt, Gone, Fresh, Begun, Found, Sealed, Drives, At, files_of, drive_at, is_gone, is_sealed, due, IsDueNowhere}
 
 -- where a drive stands fits the plan: its records are those of the first files, and its gate stands behind them; a drive that was found sealed has all
@@ -63,10 +64,12 @@ pub record FitsCopy (o : Ordered) (each : List DriveAt) (i : ℕ) (copy : FileCo
 abbrev pub BegunBefore : ℕ → List DriveAt → Type 0
 BegunBefore d each = (k : ℕ) → k < d → HasAtLeast 0 (drive_at each k)
 
--- a record of a file is made on drive after drive: those before d have it, if they are of the run
+-- A record of a file is made on drive after drive: those before d have it, if they are of the run. It has no other digests than the source list records
+-- of the file.
 pub record FitsRecord (o : Ordered) (each : List DriveAt) (rec : Rec) (d : ℕ) : Type 0 where
   pub there : d < length each
   pub sized : IsSizeOf o.plan rec.index rec.size
+  pub agrees : other_listed o.listed rec.index rec.triple ≡ None
   pub before : (k : ℕ) → k < d → HasAtLeast (suc rec.index) (drive_at each k)
   pub have : AllHave rec.index each
 
@@ -91,7 +94,7 @@ Fits o each Ended = Unit {0}
 abbrev pub FitsOutcome : Phase → Outcome → Type 0
 FitsOutcome phase outcome = (phase ≡ Ended → outcome ≢ Going) × (phase ≢ Ended → outcome ≡ Going)
 
--- The drives of a run fit its plan: there are one to eight; just those that are sealed had their line `sealed`, and each that had its line
+-- The drives of a run fit its plan: there are one to eight; just those that are sealed are in the set of the line `sealed`, and each in that of the line
 -- `dropped` is gone.
 pub record FitDrives (p : PlanValue) (drives : Drives) : Type 0 where
   pub some : 1 ≤ length drives.each
@@ -111,12 +114,11 @@ pub record IsRun (o : Ordered) (at : At) : Type 0 where
   pub fits : Fits o at.drives.each at.phase
   pub outcome : FitsOutcome at.phase at.outcome
 
--- a run as it is made: its first drive is begun next, no line was said, and no drive is called sealed
+-- a run as it is made: its first drive is begun next, and the sets of the lines `sealed` and `dropped` are empty
 pub record IsStart (o : Ordered) (at : At) : Type 0 where
   pub run : IsRun o at
   pub phase : at.phase ≡ Begins 0
   pub sets : (at.drives.sealed ≡ no_drives) × (at.drives.dropped ≡ no_drives)
-  pub unsealed : (d : ℕ) → drive_at at.drives.each d ≢ Sealed
 
 -- the slots of the pool that a run has
 abbrev pub slots_in : Phase → List (Option ℕ)

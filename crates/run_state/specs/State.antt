@@ -12,7 +12,8 @@ use Rattle.run_state.specs.declared.phase.Phase.{Phase}
 use Rattle.run_state.specs.declared.phase.Phase.TheVariants.{Begins, File, Records, Seals, Clears}
 
 -- Where a drive of a run stands: it is not of the run, or was dropped; it has no journal; it has these records, a closed gate behind them, and
--- keeps the part of its next file or not; it was found sealed, with these records; or its line `sealed` was said.
+-- keeps the part of its next file or not; it was found sealed, with these records, and its line is still to be said; or it is sealed, and its line
+-- `sealed` was said, or tried where the run ended by it.
 pub data DriveAt : Type 0 where
   Gone : DriveAt
   Fresh : DriveAt
@@ -37,7 +38,8 @@ pub record Ordered : Type 0 where
   pub plan : PlanValue
   pub listed : Option (List Listed)
 
--- the drives of a run by their numbers, and the sets of those whose line `sealed`, and whose line `dropped`, its turns said
+-- The drives of a run by their numbers, and the sets of those whose line `sealed`, and whose line `dropped`, its turns said, or tried where the run
+-- ended by it.
 pub record Drives : Type 0 where
   pub each : List DriveAt
   pub sealed : List Bool
@@ -62,10 +64,16 @@ abbrev pub is_gone : DriveAt → Bool
 is_gone Gone = true
 is_gone _ = false
 
--- the drive is sealed and said to be
+-- the drive is sealed, and its line was said, or tried where the run ended by it
 abbrev pub is_sealed : DriveAt → Bool
 is_sealed Sealed = true
 is_sealed _ = false
+
+-- a turn may call the drive: it is to be begun, or was begun and is not sealed
+abbrev pub IsCalled : DriveAt → Type 0
+IsCalled Fresh = Unit {0}
+IsCalled (Begun recs gate kept) = Unit {0}
+IsCalled _ = ⊥
 
 -- drive d is or was of the run: it is not gone, or the run dropped it
 abbrev pub is_of_run : Drives → ℕ → Bool

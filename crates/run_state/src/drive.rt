@@ -19,6 +19,6 @@ pub enum DriveRun {
     Found {
         entries: Vec<Rec>,
     },
-    /// Its line `sealed` was said.
+    /// It is sealed, and its line was said, or tried where the run ended by it.
     Sealed,
 }
