@@ -491,8 +491,8 @@ module _ (o : Ordered) (card start : Map) (stage : Stage) (ok : IsCopying (offlo
         where
           own : drive_at b.at.drives.each d ≡ Found recs → FoundAloud o d b.at.drives k.at b.world k.world → Inv k
           own mine a =
-              let had : Since past (IsSealed D d) b.world = subst (λ (x : DriveAt). Since past (Stands D d x) b.world) mine stands in
-              moved Sealed a.said (after_seal (length b.at.drives.each) d) (later_went a.line.went) (found_knows o card start stage ok d past a.said a.line had) a.stands.each.here (of_run k.at.drives d (ap is_gone a.stands.each.here)) tt a.goes
+              let had : Since past (IsSealed D d recs) b.world = subst (λ (x : DriveAt). Since past (Stands D d x) b.world) mine stands in
+              moved Sealed a.said (after_seal (length b.at.drives.each) d) (later_went a.line.went) (found_knows o card start stage ok d past recs a.said a.line had) a.stands.each.here (of_run k.at.drives d (ap is_gone a.stands.each.here)) tt a.goes
               (none_after_seal (length b.at.drives.each) d d)
 
       seal_turn : (e : ℕ) (x : DriveAt) → drive_at b.at.drives.each e ≡ x → FitsSeal o b.at.drives.each e → AreTidy o b.at.drives.each b.world → SealTurn o e x b.at.drives k.at b.world k.world → Inv k

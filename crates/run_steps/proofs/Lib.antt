@@ -4,6 +4,7 @@ pub mod Drives
 pub mod Still
 pub mod Scratch
 pub mod Ready
+pub mod Clean
 pub mod Standing
 pub mod Own
 pub mod Keeping

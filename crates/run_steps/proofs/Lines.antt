@@ -18,16 +18,13 @@ use Rattle.report_text.specs.Run.{sealed_text}
 use Rattle.report_text.specs.Losses.{dropped_fault_text, dropped_absent_text, dropped_length_text, dropped_altered_text, dropped_byte_text}
 use Rattle.run_state.specs.Acts.{begin_line, record_line, seal_line}
 use Rattle.run_state.specs.Runs.{begins_with, is_about}
+use Rattle.run_state.proofs.Lines.{fields_behind}
 
 -- ---- a line whose first word is `dropped`
 
 -- what follows the first word
 abbrev is_dropped : List ℕ → Type 0
 is_dropped line = (rest : List ℕ) × (line ≡ codes "dropped" ++ rest)
-
-fields_behind : (word rest : List ℕ) (more : List (List ℕ)) → (end : List ℕ) × (fields (word ++ rest) more ≡ word ++ end)
-fields_behind word rest [] = (rest, refl)
-fields_behind word rest (field ∷ more) = let b = fields_behind word (rest ++ 32 ∷ field) more in (b.0, ap (λ (l : List ℕ). fields l more) (append_assoc word rest (32 ∷ field)) ∙ b.1)
 
 dropped_word : (more : List (List ℕ)) → is_dropped (fields (codes "dropped") more)
 dropped_word more = fields_behind (codes "dropped") [] more

@@ -174,9 +174,8 @@ module _ (o : Ordered) (card start : Map) (stage : Stage) (ok : IsCopying (offlo
   pub seal_knows : (recs : List Rec) (finish : ℕ) (came : Result Unit SealError) {P : List Event → Type 0} {old mid new : World} → Went (Only (Drive d)) P old mid → SealsSafely d (list_of o.plan) (plan_list_text o.plan recs finish) (is_ok came) old mid → (said : Bool)
       → Says (seal_line d o.plan came) said mid new → Since past (λ L. ReadyToSeal D d L recs finish (list_of o.plan) (plan_list_text o.plan recs finish)) old → Knows D d past said (sealed_at came) new
   seal_knows recs finish (Ok done) went s said says h =
-      knows_sealed D d past (sealed_text d n (list_of o.plan)) sealed_line said says
-      (since_later (later_went went) past (λ L. ReadyToSeal D d L recs finish (list_of o.plan) (plan_list_text o.plan recs finish)) (IsSealed D d) (λ before all was now is. record {
-        recs = recs;
+      knows_sealed D d past (sealed_text d n (list_of o.plan)) recs sealed_line said says
+      (since_later (later_went went) past (λ L. ReadyToSeal D d L recs finish (list_of o.plan) (plan_list_text o.plan recs finish)) (IsSealed D d recs) (λ before all was now is. record {
         finish = finish;
         now = s.done refl D ok recs finish past before all was now is;
       }) h)
@@ -184,8 +183,8 @@ module _ (o : Ordered) (card start : Map) (stage : Stage) (ok : IsCopying (offlo
       knows_lost D d past _ said says (seal_lost d n d o.plan x)
       (since_later (later_went went) past (λ L. ReadyToSeal D d L recs finish (list_of o.plan) (plan_list_text o.plan recs finish)) (Keeps D d) (λ before all was now is. (s.keeps D ok recs finish past before all was now is).0) h)
 
-  pub found_knows : (said : Bool) {old new : World} → Says (sealed_text d n (list_of o.plan)) said old new → Since past (IsSealed D d) old → Knows D d past said Sealed new
-  found_knows said says h = knows_sealed D d past (sealed_text d n (list_of o.plan)) sealed_line said says h
+  pub found_knows : (recs : List Rec) (said : Bool) {old new : World} → Says (sealed_text d n (list_of o.plan)) said old new → Since past (IsSealed D d recs) old → Knows D d past said Sealed new
+  found_knows recs said says h = knows_sealed D d past (sealed_text d n (list_of o.plan)) recs sealed_line said says h
 
 -- the records of a plan's files are not more than the files
 pub few_records : (o : Ordered) (recs : List Rec) → AreRecords 0 o.plan.files recs → length recs ≤ length o.plan.files

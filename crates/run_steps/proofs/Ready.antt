@@ -75,7 +75,10 @@ module _ (p : PlanValue) (k i : ℕ) (w : World) (x : DriveAt) (tidy : IsTidy p 
     | inl found ↦
         let kept : found.0.kept ≡ true = ap keeps_part (sym found.1) ∙ on in
         let fits : KeepsPart p k w found.0.recs = subst (PartFits p k w found.0.recs) kept (at_due found.0 found.1).1 in
-        fits f (ap (slice_get p.files) (is_due i x found.0 found.1).index ∙ is)
+        λ m L h.
+        let next = fits m L h in
+        let same : next.0 ≡ f = one_file p.files i next.0 f (ap (slice_get p.files) (sym (is_due i x found.0 found.1).index) ∙ next.1) is in
+        subst (λ (g : PlannedFile). PartBegins k g.size w []) same next.2 m L h
     | inr none ↦ absurd (false≢true (ap keeps_part (sym none) ∙ on))
   ]
 

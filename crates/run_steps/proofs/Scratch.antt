@@ -14,6 +14,7 @@ use Rattle.drive_journal.specs.declared.record.Gate.{Gate}
 use Rattle.drive_journal.specs.declared.record.Rec.{Rec}
 use Rattle.drive_journal.specs.Calls.{tidied}
 use Rattle.drive_journal.specs.Steps.{IsTidied, Turns}
+use Rattle.fan_copier.specs.Copying.{PartBegins}
 use Rattle.offload_law.proofs.Plans.{file_free, not_scratch}
 use Rattle.recording.specs.Beginning.{Cleared}
 use Rattle.recording.specs.Filing.{Cleans}
@@ -69,14 +70,20 @@ free_path p plan recs = elim (some_or_none (slice_get p.files (length recs))) [
 ]
 
 module _ (p : PlanValue) (plan : IsPlan p) (d : ℕ) (recs : List Rec) (gate : Gate) {P : List Event → Type 0} {old new : World} (went : Went (Only (Drive d)) P old new) where
+  part_stays : (size : ℕ) → Turns d (IsTidied (tidied (next_path p recs) true)) true old new → PartBegins d size old [] → PartBegins d size new []
+  part_stays size t part = λ m L h.
+      let b = honest_before d m L went h in
+      let k = part m b.0 b.1 in
+      (k.0, (t.done refl m b.0 L b.1 h.events).others part_path (not_removed (next_path p recs) (free_path p plan recs)) ∙ k.1, k.2)
+
   part_left : (kept : Bool) → Turns d (IsTidied (tidied (next_path p recs) kept)) true old new → CanKeep p d old (Begun recs gate kept) → PartFits p d new recs kept
   part_left false t can = λ m L h.
       let b = honest_before d m L went h in
       (t.done refl m b.0 L b.1 h.events).gone part_path (part_removed (next_path p recs))
-  part_left true t can = λ file is m L h.
+  part_left true t can = λ m L h.
       let b = honest_before d m L went h in
-      let k = can file is m b.0 b.1 in
-      (k.0, (t.done refl m b.0 L b.1 h.events).others part_path (not_removed (next_path p recs) (free_path p plan recs)) ∙ k.1, k.2)
+      let k = can m b.0 b.1 in
+      (k.0, k.1, part_stays k.0.size t k.2)
 
   pub rejoined_tidy : (kept : Bool) → Turns d (IsTidied (tidied (next_path p recs) kept)) true old new → CanKeep p d old (Begun recs gate kept) → IsTidy p d new (Begun recs gate kept)
   rejoined_tidy kept t can = (

@@ -37,15 +37,15 @@ module _ (D : Copying) (d : ℕ) where
     under_still : (recs : List Rec) → UnderWay D d before recs → UnderWay D d all recs
     under_still recs h = record { state = h.state; is_in = st.is_in h.state h.is_in; free = h.free; at = h.at }
 
-    sealed_still : IsSealed D d before → IsSealed D d all
-    sealed_still h = record { recs = h.recs; finish = h.finish; now = st.is_in (Settled (SealedStage h.recs h.finish)) h.now }
+    sealed_still : (recs : List Rec) → IsSealed D d recs before → IsSealed D d recs all
+    sealed_still recs h = record { finish = h.finish; now = st.is_in (Settled (SealedStage recs h.finish)) h.now }
 
     pub stands_still : (x : DriveAt) → Stands D d x before → Stands D d x all
     stands_still Gone h = keeps_still h
     stands_still Fresh h = record { now = st.is_in (Settled FreshStage) h.now; no_list = ap (λ (m : Map). get m (list_of D.work.plan)) st.read ∙ h.no_list }
     stands_still (Begun recs gate kept) h = record { under_way = under_still recs h.under_way; told = omega (arith, h.told, st.told) }
-    stands_still (Found recs) h = sealed_still h
-    stands_still Sealed h = record { sealed = sealed_still h.sealed; told = omega (arith, h.told, st.told) }
+    stands_still (Found recs) h = sealed_still recs h
+    stands_still Sealed h = record { recs = h.recs; sealed = sealed_still h.recs h.sealed; told = omega (arith, h.told, st.told) }
 
     pub rests_still : (x : DriveAt) → Rests D d x before → Rests D d x all
     rests_still Gone h = tt
@@ -115,16 +115,16 @@ module _ (D : Copying) (d : ℕ) where
   keeps_of_under : (L : List Event) (recs : List Rec) → UnderWay D d L recs → Keeps D d L
   keeps_of_under L recs h = record { state = h.state; is_in = h.is_in }
 
-  keeps_of_sealed : (L : List Event) → IsSealed D d L → Keeps D d L
-  keeps_of_sealed L h = record { state = Settled (SealedStage h.recs h.finish); is_in = h.now }
+  keeps_of_sealed : (L : List Event) (recs : List Rec) → IsSealed D d recs L → Keeps D d L
+  keeps_of_sealed L recs h = record { state = Settled (SealedStage recs h.finish); is_in = h.now }
 
   -- a drive keeps to the steps, however it stands
   keeps_of : (x : DriveAt) (L : List Event) → Stands D d x L → Keeps D d L
   keeps_of Gone L h = h
   keeps_of Fresh L h = record { state = Settled FreshStage; is_in = h.now }
   keeps_of (Begun recs gate kept) L h = keeps_of_under L recs h.under_way
-  keeps_of (Found recs) L h = keeps_of_sealed L h
-  keeps_of Sealed L h = keeps_of_sealed L h.sealed
+  keeps_of (Found recs) L h = keeps_of_sealed L recs h
+  keeps_of Sealed L h = keeps_of_sealed L h.recs h.sealed
 
   pub since_keeps : {w : World} (past : List Event) (x : DriveAt) → Since past (Stands D d x) w → Since past (Keeps D d) w
   since_keeps past x h = since_more past (Stands D d x) (Keeps D d) (λ L now is. keeps_of x L is) h
@@ -168,23 +168,22 @@ module _ (D : Copying) (d : ℕ) where
         stands = recs_stand gate kept said says h;
       }
 
-    module _ (just : announces d (length D.work.plan.files) line ≡ suc (suc (length D.work.plan.files))) where
-      sealed_said : (said : Bool) {mid new : World} → Says line said mid new → (before all : List Event) → mid.events ≡ Some (past ++ before) → new.events ≡ Some (past ++ all) → IsSealed D d before → IsSealed D d all
+    module _ (recs : List Rec) (just : announces d (length D.work.plan.files) line ≡ suc (suc (length D.work.plan.files))) where
+      sealed_said : (said : Bool) {mid new : World} → Says line said mid new → (before all : List Event) → mid.events ≡ Some (past ++ before) → new.events ≡ Some (past ++ all) → IsSealed D d recs before → IsSealed D d recs all
       sealed_said said says before all was now h = record {
-        recs = h.recs;
         finish = h.finish;
-        now = (said_in (offload d D.work D.start) d line said says D.start D.stage past before all was now (Settled (SealedStage h.recs h.finish)) (omega (arith, just)) h.now).0;
+        now = (said_in (offload d D.work D.start) d line said says D.start D.stage past before all was now (Settled (SealedStage recs h.finish)) (omega (arith, just)) h.now).0;
       }
 
-      sealed_stand : (said : Bool) {mid new : World} → Says line said mid new → Since past (IsSealed D d) mid → said ≡ true → Since past (HasSaidAll D d) new
+      sealed_stand : (said : Bool) {mid new : World} → Says line said mid new → Since past (IsSealed D d recs) mid → said ≡ true → Since past (HasSaidAll D d) new
       sealed_stand false says h was_said = absurd (false≢true was_said)
-      sealed_stand true says h was_said = since_later (later_went says.went) past (IsSealed D d) (HasSaidAll D d) (λ before all was now is.
+      sealed_stand true says h was_said = since_later (later_went says.went) past (IsSealed D d recs) (HasSaidAll D d) (λ before all was now is.
           let told = said_told (offload d D.work D.start) d line says D.stage past before all was now in
-          record { sealed = sealed_said true says before all was now is; told = omega (arith, told, just) }) h
+          record { recs = recs; sealed = sealed_said true says before all was now is; told = omega (arith, told, just) }) h
 
       -- the drive is sealed, and that was announced
-      pub knows_sealed : (said : Bool) {mid new : World} → Says line said mid new → Since past (IsSealed D d) mid → Knows past said Sealed new
+      pub knows_sealed : (said : Bool) {mid new : World} → Says line said mid new → Since past (IsSealed D d recs) mid → Knows past said Sealed new
       knows_sealed said says h = record {
-        keeps = since_more past (IsSealed D d) (Keeps D d) (λ L now is. keeps_of_sealed L is) (since_later (later_went says.went) past (IsSealed D d) (IsSealed D d) (λ before all was now is. sealed_said said says before all was now is) h);
+        keeps = since_more past (IsSealed D d recs) (Keeps D d) (λ L now is. keeps_of_sealed L recs is) (since_later (later_went says.went) past (IsSealed D d recs) (IsSealed D d recs) (λ before all was now is. sealed_said said says before all was now is) h);
         stands = sealed_stand said says h;
       }

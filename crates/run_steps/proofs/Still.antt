@@ -75,7 +75,10 @@ module _ (d : ℕ) {w new : World} (same : ReadsSame d w new) where
       (p.0, ap (λ (n : Map). get n part_path) b.2 ∙ p.1, p.2)
 
   pub keeps_still : (p : PlanValue) (recs : List Rec) → KeepsPart p d w recs → KeepsPart p d new recs
-  keeps_still p recs keeps = λ file is. part_begins_still file.size [] (keeps file is)
+  keeps_still p recs keeps = λ m L h.
+      let b = same.back m L h in
+      let k = keeps m b.0 b.1 in
+      (k.0, k.1, part_begins_still k.0.size [] k.2)
 
   pub part_fits_still : (p : PlanValue) (recs : List Rec) (kept : Bool) → PartFits p d w recs kept → PartFits p d new recs kept
   part_fits_still p recs false fits = no_part_still fits

@@ -25,9 +25,9 @@ use Rattle.run_state.specs.State.{Ordered, DriveAt, Begun, drive_at, due}
 abbrev pub NoNew : ℕ → World → Type 0
 NoNew d w = (m : Map) (L : List Event) → Honest w d m L → get (reads m L d) new_path ≡ None
 
--- the part that a drive keeps is there, and is no longer than the file after these records
+-- the part that a drive keeps is that of its next file: on an honest drive there is one file more, and the part is there and no longer
 abbrev pub KeepsPart : PlanValue → ℕ → World → List Rec → Type 0
-KeepsPart p d w recs = (file : PlannedFile) → slice_get p.files (length recs) ≡ Some file → PartBegins d file.size w []
+KeepsPart p d w recs = (m : Map) (L : List Event) → Honest w d m L → (file : PlannedFile) × (slice_get p.files (length recs) ≡ Some file) × PartBegins d file.size w []
 
 -- there is no part, or it is kept
 abbrev pub PartFits : PlanValue → ℕ → World → List Rec → Bool → Type 0
@@ -90,3 +90,12 @@ PartsAt o Ended each pool w = Unit {0}
 -- what they are at a point of a run
 abbrev pub PartsReady : Ordered → Point → Type 0
 PartsReady o a = PartsAt o a.at.phase a.at.drives.each a.pool a.world
+
+-- a drive that was begun and is not sealed has no part, and no file waits for its name there
+abbrev pub IsClean : ℕ → World → DriveAt → Type 0
+IsClean d w (Begun recs gate kept) = NoNew d w × NoPart d w
+IsClean d w _ = Unit {0}
+
+-- so is every drive once the drives are sealed
+abbrev pub AreClean : Point → Type 0
+AreClean b = (e : ℕ) → b.at.phase ≡ Seals e → (d : ℕ) → IsClean d b.world (drive_at b.at.drives.each d)

@@ -27,23 +27,23 @@ pub record HasSaid (D : Copying) (d : ℕ) (recs : List Rec) (L : List Event) : 
   pub under_way : UnderWay D d L recs
   pub told : progress D.work.plan (BegunStage recs) ≤ ToldOf D d L
 
--- the drive is sealed, and nothing is pending
-pub record IsSealed (D : Copying) (d : ℕ) (L : List Event) : Type 0 where
-  pub recs : List Rec
+-- the drive is sealed with these records, and nothing is pending
+pub record IsSealed (D : Copying) (d : ℕ) (recs : List Rec) (L : List Event) : Type 0 where
   pub finish : ℕ
   pub now : In D d L (Settled (SealedStage recs finish))
 
--- the drive is sealed, and each step was announced
+-- the drive is sealed with some records, and each step was announced
 pub record HasSaidAll (D : Copying) (d : ℕ) (L : List Event) : Type 0 where
-  pub sealed : IsSealed D d L
-  pub told : progress D.work.plan (SealedStage sealed.recs sealed.finish) ≤ ToldOf D d L
+  pub recs : List Rec
+  pub sealed : IsSealed D d recs L
+  pub told : progress D.work.plan (SealedStage recs sealed.finish) ≤ ToldOf D d L
 
 -- what is known of the offload D of a drive that stands so: of one that was dropped, that it keeps to the steps
 abbrev pub Stands : Copying → ℕ → DriveAt → List Event → Type 0
 Stands D d Gone L = Keeps D d L
 Stands D d Fresh L = IsFresh D d L
 Stands D d (Begun recs gate kept) L = HasSaid D d recs L
-Stands D d (Found recs) L = IsSealed D d L
+Stands D d (Found recs) L = IsSealed D d recs L
 Stands D d Sealed L = HasSaidAll D d L
 
 -- drive d is still to be begun where this is done next
