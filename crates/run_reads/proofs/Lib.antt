@@ -1,7 +1,12 @@
 pub mod Since
 pub mod Cards
+pub mod Dating
 pub mod Places
+pub mod Following
+pub mod OfRun
 pub mod Standing
 pub mod Lines
 pub mod Backing
+pub mod AtOnce
 pub mod Once
+pub mod Naming

@@ -1,8 +1,8 @@
 -- A run reads each planned file once.
-use Rattle.std.proofs.Common.{◌≡◌, ◌≢◌, inl, inr, ℕ, suc, ◌<◌, ◌≤◌, Bool, true, false, List, [], ◌∷◌, ◌++◌, length, refl, sym, ap, ◌∙◌, subst, arith}
-use Rattle.std.specs.Prelude.{Option, Some, None, nat_lt, is_some, if◌then◌else◌}
+use Rattle.std.proofs.Common.{◌≡◌, ◌≢◌, inl, inr, ℕ, Bool, true, false, List, [], ◌∷◌, ◌++◌, sym, ap, ◌∙◌, subst}
+use Rattle.std.specs.Prelude.{Option, Some, None}
 use Rattle.std.specs.List.{slice_get}
-use Rattle.std.proofs.lemmas.Bool.{cases_Bool, cases_eq}
+use Rattle.std.proofs.lemmas.Bool.{cases_eq}
 use Rattle.bay_core.specs.declared.event.Event.{Event}
 use Rattle.bay_core.specs.declared.event.Event.TheVariants.{SourceRead}
 use Rattle.bay_core.specs.Replay.{Device, Source, Drive, Output, Clock}
@@ -13,7 +13,6 @@ use Rattle.copy_plan.specs.declared.file.PlannedFile.{PlannedFile}
 use Rattle.copy_plan.specs.Plan.{IsPlan}
 use Rattle.drive_journal.specs.declared.order.Listed.{Listed}
 use Rattle.drive_journal.specs.declared.record.Rec.{Rec}
-use Rattle.fan_core.specs.Flags.{lowest}
 use Rattle.fan_copier.specs.declared.copy.FileCopy.{FileCopy}
 use Rattle.fan_copier.specs.declared.turn.Turn.{Turn}
 use Rattle.fan_copier.specs.declared.turn.Turn.TheVariants.{Going, Dropped, Copied, SourceFailed, Changed, NoDrive}
@@ -23,17 +22,18 @@ use Rattle.fan_copier.specs.Turning.{Touches, AreCopyCalls, Turned as CopyTurned
 use Rattle.fan_copier.proofs.Ordering.{order_in}
 use Rattle.run_state.specs.declared.phase.Phase.{Phase}
 use Rattle.run_state.specs.declared.phase.Phase.TheVariants.{Begins, File, Copies, Dates, Records, Seals, Clears, Ended}
-use Rattle.run_state.specs.Acts.{Goes, BeginTurn, copies_on, CopySettles, CopyActed, other_listed, DateTurn, RecordTurn, SealTurn, is_clear, ClearTurn}
+use Rattle.run_state.specs.Acts.{BeginTurn, CopySettles, CopyActed, other_listed, DateTurn, RecordTurn, SealTurn, is_clear, ClearTurn}
+use Rattle.run_state.specs.Rules.{Fits, IsRun}
 use Rattle.run_state.specs.Runs.{Point, Runs, starts, turns, beside, Beside, Alone, still, turned, IsPlanned}
-use Rattle.run_state.specs.State.{Ordered, DriveAt, Gone, Fresh, Begun, Found, Sealed, At, Journaled, files_of, drive_at, count_sealed, due, after_file, after_record, after_seal}
+use Rattle.run_state.specs.State.{Ordered, DriveAt, Gone, Fresh, Begun, Found, Sealed, Journaled, files_of, drive_at, count_sealed, due}
 use Rattle.run_state.specs.Turn.{Acted}
-use Rattle.run_reads.specs.Parts.{Starts}
-use Rattle.run_reads.specs.Reads.{reads_of, ReadsOnce, ReadsItsFiles}
+use Rattle.run_state.proofs.Turns.{runs_run, alone_runs}
+use Rattle.run_reads.specs.Reads.{reads_of, ReadsItsFiles}
 use Rattle.run_reads.proofs.Since.{Since, since_none, since_more, since_such, since_same, since_at}
 use Rattle.run_reads.proofs.Cards.{reads_then, reads_off, other_reads, beside_reads}
 use Rattle.run_reads.proofs.Lines.{split_at}
 use Rattle.run_reads.proofs.Places.{some_same, is_planned, paths_apart}
-use Rattle.run_reads.proofs.Standing.{output_off, clock_off, drive_off, begin_went, Core, CoreAt, FileGave, Saw, runs_core, start_core, ordered}
+use Rattle.run_reads.proofs.Standing.{output_off, clock_off, drive_off, begin_went, Core, CoreAt, runs_core, ordered}
 
 -- another file than this is copied, or none
 abbrev IsNotCopied : ℕ → Phase → Type 0
@@ -150,148 +150,6 @@ module _ (o : Ordered) (plan : IsPlan o.plan) (a : Point) where
   runs_orders b core (turns {b = x} so_far t) = turn_orders x b x.at.phase (runs_core o plan a x core so_far) t (runs_orders x core so_far)
   runs_orders b core (beside {b = x} so_far t) = λ j f is. beside_stays f (InOrderOf f) x b j is t (runs_orders x core so_far j f is)
 
-  -- ---- a file that was copied is not read again
-
-  abbrev IsPast : ℕ → Phase → Type 0
-  IsPast i (Begins e) = ⊥
-  IsPast i (File k) = i < k
-  IsPast i (Copies k copy) = i < k
-  IsPast i (Dates k t) = i ≤ k
-  IsPast i (Records rec e) = i ≤ rec.index
-  IsPast i _ = Unit {0}
-
-  past_ended : (i : ℕ) (c : Point) → c.at.phase ≡ Ended → IsPast i c.at.phase
-  past_ended i c is = subst (IsPast i) (sym is) tt
-
-  past_goes : (i : ℕ) (c : Point) (ok : Bool) (next : Phase) → Goes ok next c.at → IsPast i next → IsPast i c.at.phase
-  past_goes i c true next (is, going) past = subst (IsPast i) (sym is) past
-  past_goes i c false next (is, out) past = past_ended i c is
-
-  past_either : (i n w : ℕ) (x y : Phase) → IsPast i x → IsPast i y → IsPast i (if nat_lt n w then x else y)
-  past_either i n w x y one two = elim (cases_Bool (nat_lt n w)) [
-    | inl holds ↦ subst (IsPast i) (sym (ap (λ b. if b then x else y) holds)) one
-    | inr fails ↦ subst (IsPast i) (sym (ap (λ b. if b then x else y) fails)) two
-  ]
-
-  past_file : (i n k : ℕ) → i ≤ k → IsPast i (after_file n k)
-  past_file i n k less = past_either i (suc k) n (File (suc k)) (Seals 0) (omega (arith, less)) tt
-
-  past_record : (i w n : ℕ) (rec : Rec) (e : ℕ) → i ≤ rec.index → IsPast i (after_record w n rec e)
-  past_record i w n rec e less = past_either i (suc e) w (Records rec (suc e)) (after_file n rec.index) less (past_file i n rec.index less)
-
-  past_seal : (i w e : ℕ) → IsPast i (after_seal w e)
-  past_seal i w e = past_either i (suc e) w (Seals (suc e)) Clears tt tt
-
-  past_copies : (i n k : ℕ) (next : FileCopy) → i < k → IsPast i (copies_on n k next)
-  past_copies i n k next less = by (is_some (lowest (live_of next)))
-    where
-      by : (some : Bool) → IsPast i (if some then Copies k next else after_file n k)
-      by true = less
-      by false = past_file i n k (omega (arith, less))
-
-  turn_past : (i : ℕ) (b c : Point) (phase : Phase) → b.at.phase ≡ phase → IsPast i phase → Acted o phase b.at c.at b.pool c.pool b.world c.world → IsPast i c.at.phase
-  turn_past i b c (Begins e) is past t = absurd past
-  turn_past i b c (File k) is past (inl t) = past_goes i c true (Copies k t.copy) t.goes past
-  turn_past i b c (File k) is past (inr t) = past_goes i c true (after_file (files_of o.plan) k) t.1.goes (past_file i (files_of o.plan) k (omega (arith, past)))
-  turn_past i b c (Copies k copy) is past t = by t.came t.settles
-    where
-      by : (came : Turn) → CopySettles (files_of o.plan) k came t.next b.at.drives c.at t.mid c.world → IsPast i c.at.phase
-      by Going s = past_goes i c true (Copies k t.next) s.1 past
-      by (Dropped e) s = past_goes i c s.said (copies_on (files_of o.plan) k t.next) s.goes (past_copies i (files_of o.plan) k t.next past)
-      by (Copied x) s = past_goes i c true (Dates k x) s.1 (omega (arith, past))
-      by SourceFailed s = past_ended i c s.1.0
-      by (Changed p q) s = past_ended i c s.1.0
-      by NoDrive s = absurd s
-  turn_past i b c (Dates k x) is past t = by (other_listed o.listed k x) t
-    where
-      by : (other : Option Listed) → DateTurn o k x other b.at.drives c.at b.world c.world → IsPast i c.at.phase
-      by None act = past_goes i c true (Records (record { index = k; size = act.file.size; triple = x; hashed = act.seconds }) 0) act.goes past
-      by (Some l) act = past_ended i c act.1.0
-  turn_past i b c (Records rec e) is past t = by (due rec.index (drive_at b.at.drives.each e)) t
-    where
-      by : (was : Option Journaled) → RecordTurn o rec e was b.at.drives c.at b.world c.world → IsPast i c.at.phase
-      by None act = past_goes i c true (after_record (length b.at.drives.each) (files_of o.plan) rec e) act.goes (past_record i (length b.at.drives.each) (files_of o.plan) rec e past)
-      by (Some was) act = past_goes i c act.said (after_record (length b.at.drives.each) (files_of o.plan) rec e) act.goes (past_record i (length b.at.drives.each) (files_of o.plan) rec e past)
-  turn_past i b c (Seals e) is past t = by (drive_at b.at.drives.each e) t
-    where
-      by : (x : DriveAt) → SealTurn o e x b.at.drives c.at b.world c.world → IsPast i c.at.phase
-      by (Begun recs gate kept) act = past_goes i c act.said (after_seal (length b.at.drives.each) e) act.goes (past_seal i (length b.at.drives.each) e)
-      by (Found recs) act = past_goes i c act.said (after_seal (length b.at.drives.each) e) act.goes (past_seal i (length b.at.drives.each) e)
-      by Fresh act = absurd act
-      by Gone act = past_goes i c true (after_seal (length b.at.drives.each) e) act.goes (past_seal i (length b.at.drives.each) e)
-      by Sealed act = past_goes i c true (after_seal (length b.at.drives.each) e) act.goes (past_seal i (length b.at.drives.each) e)
-  turn_past i b c Clears is past t = by (is_clear (count_sealed b.at.drives.each) o.copies) t.1
-    where
-      by : (is_due : Bool) → ClearTurn o.copies (count_sealed b.at.drives.each) is_due c.at b.world c.world → IsPast i c.at.phase
-      by true act = past_ended i c act.ends.0
-      by false act = past_ended i c act.0.0
-  turn_past i b c Ended is past t = past_ended i c (ap (λ (k : At). k.phase) t.0 ∙ is)
-
-  not_copied : (i : ℕ) (phase : Phase) → IsPast i phase → IsNotCopied i phase
-  not_copied i (Copies k copy) past = λ same. absurd (omega (arith, past, same))
-  not_copied i (Begins e) past = tt
-  not_copied i (File k) past = tt
-  not_copied i (Dates k t) past = tt
-  not_copied i (Records rec e) past = tt
-  not_copied i (Seals e) past = tt
-  not_copied i Clears past = tt
-  not_copied i Ended past = tt
-
-  -- what was read of it stays so
-  record Stays (i : ℕ) (f : PlannedFile) (Q : List Event → Type 0) (b : Point) : Type 0 where
-    past : IsPast i b.at.phase
-    core : Core o plan a b
-    seen : Since (λ L. Q (reads_of o.source f.path L)) a.world b.world
-
-  runs_stay : (i : ℕ) (f : PlannedFile) (Q : List Event → Type 0) (m b : Point) → slice_get o.plan.files i ≡ Some f → Core o plan a a → Runs o a m → Stays i f Q m → Runs o m b → Stays i f Q b × Runs o a b
-  runs_stay i f Q m b is core first old starts = (old, first)
-  runs_stay i f Q m b is core first old (turns {b = x} so_far t) =
-      let at_x = runs_stay i f Q m x is core first old so_far in
-      let s = at_x.0 in
-      let all : Runs o a b = turns at_x.1 t in (
-        record {
-          past = turn_past i x b x.at.phase refl s.past t;
-          core = runs_core o plan a b core all;
-          seen = turn_stays f Q x b x.at.phase i is (not_copied i x.at.phase s.past) s.core t s.seen;
-        },
-        all,
-      )
-  runs_stay i f Q m b is core first old (beside {b = x} so_far t) =
-      let at_x = runs_stay i f Q m x is core first old so_far in
-      let s = at_x.0 in
-      let all : Runs o a b = beside at_x.1 t in (
-        record {
-          past = subst (λ (k : At). IsPast i k.phase) (sym t.same) s.past;
-          core = runs_core o plan a b core all;
-          seen = beside_stays f Q x b i is t s.seen;
-        },
-        all,
-      )
-
-  pub copied_ends : (i : ℕ) (f : PlannedFile) (t : Triple) (m b : Point) → slice_get o.plan.files i ≡ Some f → Core o plan a a → Runs o a m → Runs o m b → m.at.phase ≡ Dates i t → Since (λ L. Saw o plan a f t (reads_of o.source f.path L)) a.world b.world
-  copied_ends i f t m b is core first rest next =
-      let here = runs_core o plan a m core first in
-      let g : FileGave o plan a i t m.world = (subst (λ (k : Phase). CoreAt o plan a k m.at.drives m.pool m.world) next here).1 in
-      let same : g.file ≡ f = some_same g.file f (sym g.is_file ∙ is) in
-      let old : Stays i f (Saw o plan a f t) m = record {
-        past = subst (IsPast i) (sym next) (omega arith);
-        core = here;
-        seen = subst (λ (x : PlannedFile). Since (λ L. Saw o plan a x t (reads_of o.source x.path L)) a.world m.world) same g.reads;
-      } in
-      (runs_stay i f (Saw o plan a f t) m b is core first old rest).0.seen
-
--- a run reads each planned file once
-pub once : (o : Ordered) (a b : Point) → Starts o a → Runs o a b → (past L : List Event) → a.world.events ≡ Some past → b.world.events ≡ Some (past ++ L) → ReadsOnce o a b L
-once o a b s r past L was now =
-    let plan = s.run.run.plan in
-    let core = start_core o plan a s in
-    record {
-      in_order = λ i f is. since_at (runs_orders o plan a b core r i f is) past L was now;
-      to_the_end = λ i f t is between.
-          let saw = since_at (copied_ends o plan a i f t between.mid b is core between.before between.after between.next) past L was now in
-          (saw.1, saw.2);
-    }
-
 -- ---- no other file is read
 
 -- calls that are on no card have no read of one among them
@@ -305,7 +163,7 @@ unfolding AreCopyCalls
 copy_read c q [] after s path at want got are = are.0
 copy_read c q (e ∷ front) after s path at want got are = copy_read c q front after s path at want got are.1
 
-module _ (o : Ordered) (plan : IsPlan o.plan) (a : Point) where
+module _ (o : Ordered) (a : Point) where
   files_more : {On : Device → Type 0} {P : List Event → Type 0} {w new : World} → Went On P w new
       → ((front after : List Event) (s : ℕ) (path : List ℕ) (at want : ℕ) (got : Option (List ℕ)) → AllOn On (front ++ SourceRead s path at want got ∷ after) → P (front ++ SourceRead s path at want got ∷ after) → (s ≡ o.source) × IsPlanned o.plan path)
       → Since (ReadsItsFiles o) a.world w → Since (ReadsItsFiles o) a.world new
@@ -362,29 +220,29 @@ module _ (o : Ordered) (plan : IsPlan o.plan) (a : Point) where
   clear_files b c required sealed true t old = files_off t.line.went off_line old
   clear_files b c required sealed false t old = since_same t.1 old
 
-  turn_files : (b c : Point) (phase : Phase) → CoreAt o plan a phase b.at.drives b.pool b.world → Acted o phase b.at c.at b.pool c.pool b.world c.world → Since (ReadsItsFiles o) a.world b.world → Since (ReadsItsFiles o) a.world c.world
-  turn_files b c (Begins e) core t old = begin_files b c e (drive_at b.at.drives.each e) t old
-  turn_files b c (File i) core (inl t) old = since_same t.idle old
-  turn_files b c (File i) core (inr t) old = since_same t.1.idle old
-  turn_files b c (Copies i copy) core t old = settles_files b c i t.came t.next t.mid t.settles (files_more t.touches (λ front after s path at want got on such.
+  turn_files : (b c : Point) (phase : Phase) → Fits o b.at.drives.each phase → Acted o phase b.at c.at b.pool c.pool b.world c.world → Since (ReadsItsFiles o) a.world b.world → Since (ReadsItsFiles o) a.world c.world
+  turn_files b c (Begins e) fits t old = begin_files b c e (drive_at b.at.drives.each e) t old
+  turn_files b c (File i) fits (inl t) old = since_same t.idle old
+  turn_files b c (File i) fits (inr t) old = since_same t.1.idle old
+  turn_files b c (Copies i copy) fits t old = settles_files b c i t.came t.next t.mid t.settles (files_more t.touches (λ front after s path at want got on such.
       let is = copy_read (card_of copy) t.file.path front after s path at want got such in
-      (is.0 ∙ core.1.of_card, subst (IsPlanned o.plan) (sym is.1) (is_planned o.plan i t.file t.is_file))) old)
-  turn_files b c (Dates i x) core t old = date_files b c i x (other_listed o.listed i x) t old
-  turn_files b c (Records rec e) core t old = record_files b c rec e (due rec.index (drive_at b.at.drives.each e)) t old
-  turn_files b c (Seals e) core t old = seal_files b c e (drive_at b.at.drives.each e) t old
-  turn_files b c Clears core t old = clear_files b c o.copies (count_sealed b.at.drives.each) (is_clear (count_sealed b.at.drives.each) o.copies) t.1 old
-  turn_files b c Ended core t old = since_same t.2 old
+      (is.0 ∙ fits.card, subst (IsPlanned o.plan) (sym is.1) (is_planned o.plan i t.file t.is_file))) old)
+  turn_files b c (Dates i x) fits t old = date_files b c i x (other_listed o.listed i x) t old
+  turn_files b c (Records rec e) fits t old = record_files b c rec e (due rec.index (drive_at b.at.drives.each e)) t old
+  turn_files b c (Seals e) fits t old = seal_files b c e (drive_at b.at.drives.each e) t old
+  turn_files b c Clears fits t old = clear_files b c o.copies (count_sealed b.at.drives.each) (is_clear (count_sealed b.at.drives.each) o.copies) t.1 old
+  turn_files b c Ended fits t old = since_same t.2 old
 
-  pub alone_files : (b : Point) → Core o plan a a → Alone o a b → Since (ReadsItsFiles o) a.world b.world × Runs o a b
-  alone_files b core still = (since_none a.world (record { each = λ before after s path at want got is. absurd (none before after (SourceRead s path at want got) is) }), starts)
+  alone_files : (b : Point) → IsRun o a.at → Alone o a b → Since (ReadsItsFiles o) a.world b.world
+  alone_files b rules still = since_none a.world (record { each = λ before after s path at want got is. absurd (none before after (SourceRead s path at want got) is) })
     where
       none : (before after : List Event) (e : Event) → [] ≡ before ++ e ∷ after → ⊥
       none [] after e is = absurd (cc is)
       none (x ∷ before) after e is = absurd (cc is)
-  alone_files b core (turned {b = x} so_far t) =
-      let at_x = alone_files x core so_far in
-      (turn_files x b x.at.phase (runs_core o plan a x core at_x.1) t at_x.0, turns at_x.1 t)
+  alone_files b rules (turned {b = x} so_far t) =
+      let here = runs_run o a x rules (alone_runs o a x so_far) in
+      turn_files x b x.at.phase here.fits t (alone_files x rules so_far)
 
 -- turns with nothing between them read planned files alone
-pub its_files : (o : Ordered) (a b : Point) → Starts o a → Alone o a b → (past L : List Event) → a.world.events ≡ Some past → b.world.events ≡ Some (past ++ L) → ReadsItsFiles o L
-its_files o a b s r past L was now = since_at (alone_files o s.run.run.plan a b (start_core o s.run.run.plan a s) r).0 past L was now
+pub its_files : (o : Ordered) (a b : Point) → IsRun o a.at → Alone o a b → (past L : List Event) → a.world.events ≡ Some past → b.world.events ≡ Some (past ++ L) → ReadsItsFiles o L
+its_files o a b rules r past L was now = since_at (alone_files o a b rules r) past L was now

@@ -129,9 +129,12 @@ keeps_due i x keeps = by (due i x) keeps
     by (Some j) is = refl
 
 pub part_of_due : (p : PlanValue) (i : ℕ) (x : DriveAt) (d : ℕ) (w : World) (f : PlannedFile) → slice_get p.files i ≡ Some f → keeps_part (due i x) ≡ true → KeepsFit p x d w → PartBegins d f.size w []
-part_of_due p i (Begun recs gate true) d w f is keeps fit =
+part_of_due p i (Begun recs gate true) d w f is keeps fit = λ m L h.
     let count = due_begun i recs gate true (keeps_due i (Begun recs gate true) keeps) in
-    fit f (ap (slice_get p.files) count ∙ is)
+    let next = fit m L h in
+    let same : next.0 ≡ f = some_same next.0 f (sym next.1 ∙ ap (slice_get p.files) count ∙ is) in
+    let part : PartBegins d f.size w [] = subst (λ (g : PlannedFile). PartBegins d g.size w []) same next.2 in
+    part m L h
 part_of_due p i (Begun recs gate false) d w f is keeps fit =
     let here = due_here i recs gate false (due_begun i recs gate false (keeps_due i (Begun recs gate false) keeps)) in
     absurd (false≢true (sym (ap keeps_part here) ∙ keeps))
@@ -153,7 +156,10 @@ no_part_stays d w after same none = λ m L h.
     ap (λ (n : Map). get n part_path) b.2 ∙ none m b.0 b.1
 
 pub fit_stays : (p : PlanValue) (x : DriveAt) (d : ℕ) (w after : World) → ReadsSame d w after → KeepsFit p x d w → KeepsFit p x d after
-fit_stays p (Begun recs gate true) d w after same fit = λ f is. begins_stays d f.size w after [] same (fit f is)
+fit_stays p (Begun recs gate true) d w after same fit = λ m L h.
+    let b = same.back m L h in
+    let next = fit m b.0 b.1 in
+    (next.0, next.1, begins_stays d next.0.size w after [] same next.2)
 fit_stays p (Begun recs gate false) d w after same fit = tt
 fit_stays p Gone d w after same fit = tt
 fit_stays p Fresh d w after same fit = tt
@@ -177,7 +183,7 @@ part_at_stays p (File i) x d w after same part = ready_stays p x d w after same 
 part_at_stays p (Copies i copy) x d w after same part = λ not. ready_stays p x d w after same (part not)
 part_at_stays p (Dates i t) x d w after same part = λ not. ready_stays p x d w after same (part not)
 part_at_stays p (Records rec e) x d w after same part = (part.0, λ not. ready_stays p x d w after same (part.1 not))
-part_at_stays p (Seals e) x d w after same part = tt
+part_at_stays p (Seals e) x d w after same part = ready_stays p x d w after same part
 part_at_stays p Clears x d w after same part = tt
 part_at_stays p Ended x d w after same part = tt
 
@@ -191,7 +197,7 @@ part_at_gone p phase x d w is = subst (λ (y : DriveAt). PartAt p phase y d w) (
     by (Copies i copy) = λ not. (tt, tt)
     by (Dates i t) = λ not. (tt, tt)
     by (Records rec e) = (λ less. refl, λ not. (tt, tt))
-    by (Seals e) = tt
+    by (Seals e) = (tt, tt)
     by Clears = tt
     by Ended = tt
 

@@ -26,7 +26,7 @@ use Rattle.fan_core.proofs.Rules.{none_lowest}
 use Rattle.fan_copier.specs.declared.copy.FileCopy.{FileCopy}
 use Rattle.fan_copier.specs.declared.turn.Turn.{Turn}
 use Rattle.fan_copier.specs.declared.turn.Turn.TheVariants.{Going, Dropped, Copied, SourceFailed, Changed, NoDrive}
-use Rattle.fan_copier.specs.Copying.{card_of, size_of, live_of, standing, Copying}
+use Rattle.fan_copier.specs.Copying.{card_of, size_of, live_of, standing, Copying, PartBegins}
 use Rattle.fan_copier.specs.Follows.{GoesOn, InOrder, EndsAtSize}
 use Rattle.fan_copier.specs.Keeping.{ReadsSame, KeepsBlocks}
 use Rattle.fan_copier.specs.Passed.{is_card, card_calls}
@@ -37,17 +37,20 @@ use Rattle.fan_copier.proofs.Leaving.{turn_copy}
 use Rattle.fan_copier.proofs.Ordering.{ReadsFrom, order_none, order_append, order_in, turn_order, turn_past}
 use Rattle.read_back.specs.declared.back.ReadBackError.{ReadBackError}
 use Rattle.recording.specs.Filing.{Cleans}
+use Rattle.seal_step.specs.declared.error.SealError.{SealError}
 use Rattle.run_state.specs.declared.phase.Phase.{Phase}
 use Rattle.run_state.specs.declared.phase.Phase.TheVariants.{Begins, File, Copies, Dates, Records, Seals, Clears, Ended}
-use Rattle.run_state.specs.Acts.{Goes, Passes, next_path, BeginTried, begun_at, MovesOrDrops, BegunAloud, BeginTurn, FileTurn, copies_on, CopySettles, CopyActed, other_listed, DateTurn, RecordStands, RecordedAloud, RecordTurn, SealTurn, is_clear, ClearTurn}
+use Rattle.run_state.specs.Acts.{Goes, Puts, Passes, next_path, BeginTried, begun_at, MovesOrDrops, BegunAloud, BeginTurn, FileTurn, copies_on, CopySettles, CopyActed, other_listed, DateTurn, RecordStands, RecordedAloud, RecordTurn, SealStands, SealedAloud, SealTurn, is_clear, ClearTurn}
 use Rattle.run_state.specs.Rules.{slots_in}
 use Rattle.run_state.specs.Runs.{Point, Runs, starts, turns, beside, Beside, AreBeside, IsElsewhere}
 use Rattle.run_state.specs.State.{Ordered, DriveAt, Gone, Fresh, Begun, Found, Sealed, Drives, At, Journaled, files_of, drive_at, is_gone, is_of_run, count_sealed, due, after_begin, after_file, after_record, after_seal}
 use Rattle.run_state.specs.Turn.{Acted}
 use Rattle.run_reads.specs.Parts.{KeepsFit, HasNone, IsReady, PartAt, CopyStands, PartsStand, Starts}
 use Rattle.run_reads.specs.Reads.{reads_of, got_in, card_given}
+use Rattle.run_reads.specs.Backs.{IsDated}
 use Rattle.run_reads.proofs.Since.{Since, since_none, since_more, since_such, since_both}
 use Rattle.run_reads.proofs.Cards.{reads_append, given_append, reads_then, reads_off, copy_reads, other_reads, beside_reads, Good, turn_got, ends_more}
+use Rattle.run_reads.proofs.Dating.{dated_next, dated_more}
 use Rattle.run_reads.proofs.Places.{below, some_same, drive_past, due_some, due_not, not_due, is_due, none_of_due, part_of_due, no_part_stays, fit_stays, none_stays, ready_stays, part_at_stays, part_at_gone, ready_gone, reads_on, other_drive, elsewhere_off, path_not_part, is_planned, paths_apart}
 
 -- every drive reads as before
@@ -88,6 +91,15 @@ begin_went p e Gone ok w mid t = absurd t
 begin_went p e (Found recs) ok w mid t = absurd t
 begin_went p e Sealed ok w mid t = absurd t
 
+-- a part that is kept stays as it was where the other scratch files are removed
+still_begins : (p : PlanValue) → IsPlan p → (e : ℕ) (recs : List Rec) (gate : Gate) (w mid : World) → BeginTried p e (Begun recs gate true) true w mid → (f : PlannedFile) → slice_get p.files (length recs) ≡ Some f → PartBegins e f.size w [] → PartBegins e f.size mid []
+still_begins p plan e recs gate w mid t f is part = λ m L h.
+    let b = honest_before e m L t.0.went h in
+    let old = part m b.0 b.1 in
+    let apart : Contains (new_path ∷ given (next_path p recs)) part_path → ⊥ =
+    subst (λ (x : Option PlannedFile). Contains (new_path ∷ given (option_map (λ (g : PlannedFile). g.path) x)) part_path → ⊥) (sym is) (two_apart new_path f.path part_path (other_text new_path part_path refl) (path_not_part p plan (length recs) f is)) in
+    (old.0, (t.2.done refl m b.0 L b.1 h.events).others part_path apart ∙ old.1, old.2)
+
 -- a drive that was begun is ready
 begin_ready : (p : PlanValue) → IsPlan p → (e : ℕ) (was : DriveAt) (w mid : World) → BeginTried p e was true w mid → KeepsFit p was e w → IsReady p (begun_at p was) e mid
 begin_ready p plan e Fresh w mid t fit = (
@@ -103,12 +115,10 @@ begin_ready p plan e (Begun recs gate false) w mid t fit = (
       (t.2.done refl m b.0 L b.1 h.events).gone part_path (1, omega arith, refl),
 )
 begin_ready p plan e (Begun recs gate true) w mid t fit = (
-  λ f is m L h.
+  λ m L h.
       let b = honest_before e m L t.0.went h in
-      let old = fit f is m b.0 b.1 in
-      let apart : Contains (new_path ∷ given (next_path p recs)) part_path → ⊥ =
-      subst (λ (x : Option PlannedFile). Contains (new_path ∷ given (option_map (λ (g : PlannedFile). g.path) x)) part_path → ⊥) (sym is) (two_apart new_path f.path part_path (other_text new_path part_path refl) (path_not_part p plan (length recs) f is)) in
-      (old.0, (t.2.done refl m b.0 L b.1 h.events).others part_path apart ∙ old.1, old.2),
+      let next = fit m b.0 b.1 in
+      (next.0, next.1, still_begins p plan e recs gate w mid t next.0 next.1 next.2),
   tt,
 )
 begin_ready p plan e Gone w mid t fit = absurd t
@@ -143,12 +153,18 @@ module _ (o : Ordered) (plan : IsPlan o.plan) (a : Point) where
     pub reads : Since (λ L. Saw file t (reads_of o.source file.path L)) a.world w
     pub unread : Unread (suc i) w
 
+  -- a file was copied, and this is its record, whose moment was asked since
+  pub record FileDated (rec : Rec) (w : World) : Type 0 where
+    pub gave : FileGave rec.index rec.triple w
+    pub sized : (f : PlannedFile) → slice_get o.plan.files rec.index ≡ Some f → rec.size ≡ f.size
+    pub dated : (f : PlannedFile) → slice_get o.plan.files rec.index ≡ Some f → Since (IsDated o f rec.hashed) a.world w
+
   abbrev pub GivesAt : Phase → Drives → PoolState → World → Type 0
   GivesAt (Begins e) drives pool w = Unread 0 w
   GivesAt (File i) drives pool w = Unread i w
   GivesAt (Copies i copy) drives pool w = CopyGives i copy drives pool w
   GivesAt (Dates i t) drives pool w = FileGave i t w
-  GivesAt (Records rec e) drives pool w = FileGave rec.index rec.triple w × ((f : PlannedFile) → slice_get o.plan.files rec.index ≡ Some f → rec.size ≡ f.size)
+  GivesAt (Records rec e) drives pool w = FileDated rec w
   GivesAt (Seals e) drives pool w = Unit {0}
   GivesAt Clears drives pool w = Unit {0}
   GivesAt Ended drives pool w = Unit {0}
@@ -179,6 +195,13 @@ module _ (o : Ordered) (plan : IsPlan o.plan) (a : Point) where
     is_file = g.is_file;
     reads = since_more g.reads went (λ A B so on such. subst (Saw g.file t) (sym (reads_then o.source g.file.path A B (none i g.file g.is_file B on such))) so);
     unread = unread_off (suc i) went none g.unread;
+  }
+
+  dated_off : {On : Device → Type 0} {P : List Event → Type 0} {w new : World} (rec : Rec) → Went On P w new → ReadsNone On P → FileDated rec w → FileDated rec new
+  dated_off rec went none d = record {
+    gave = gave_off rec.index rec.triple went none d.gave;
+    sized = d.sized;
+    dated = λ f is. since_more (d.dated f is) went (λ A B so on such. dated_more o f rec.hashed A B (none rec.index f is B on such) so);
   }
 
   -- ---- what is done next
@@ -213,12 +236,12 @@ module _ (o : Ordered) (plan : IsPlan o.plan) (a : Point) where
       ]
 
   file_core : (n i : ℕ) (drives : Drives) (pool : PoolState) (v : World) → ((d : ℕ) → IsReady o.plan (drive_at drives.each d) d v) → Unread (suc i) v → CoreAt (after_file n i) drives pool v
-  file_core n i drives pool v parts unread = either (suc i) n (File (suc i)) (Seals 0) drives pool v (λ less. (parts, unread)) (λ more. ((λ d. tt), tt))
+  file_core n i drives pool v parts unread = either (suc i) n (File (suc i)) (Seals 0) drives pool v (λ less. (parts, unread)) (λ more. (parts, tt))
 
   record_core : (w n : ℕ) (rec : Rec) (e : ℕ) (drives : Drives) (pool : PoolState) (v : World) → length drives.each ≡ w
       → ((d : ℕ) → (d < suc e → due rec.index (drive_at drives.each d) ≡ None) × (due rec.index (drive_at drives.each d) ≡ None → IsReady o.plan (drive_at drives.each d) d v))
       → GivesAt (Records rec e) drives pool v → CoreAt (after_record w n rec e) drives pool v
-  record_core w n rec e drives pool v long parts gives = either (suc e) w (Records rec (suc e)) (after_file n rec.index) drives pool v (λ less. (parts, gives)) (λ more. file_core n rec.index drives pool v (λ d. ready d more) gives.0.unread)
+  record_core w n rec e drives pool v long parts gives = either (suc e) w (Records rec (suc e)) (after_file n rec.index) drives pool v (λ less. (parts, gives)) (λ more. file_core n rec.index drives pool v (λ d. ready d more) gives.gave.unread)
     where
       ready : (d : ℕ) → w ≤ suc e → IsReady o.plan (drive_at drives.each d) d v
       ready d more = elim (below d (suc e)) [
@@ -226,8 +249,8 @@ module _ (o : Ordered) (plan : IsPlan o.plan) (a : Point) where
         | inr far ↦ ready_gone o.plan (drive_at drives.each d) d v (drive_past drives.each d (omega (arith, long, more, far.1)))
       ]
 
-  seal_core : (w e : ℕ) (drives : Drives) (pool : PoolState) (v : World) → CoreAt (after_seal w e) drives pool v
-  seal_core w e drives pool v = either (suc e) w (Seals (suc e)) Clears drives pool v (λ less. ((λ d. tt), tt)) (λ more. ((λ d. tt), tt))
+  seal_core : (w e : ℕ) (drives : Drives) (pool : PoolState) (v : World) → ((d : ℕ) → IsReady o.plan (drive_at drives.each d) d v) → CoreAt (after_seal w e) drives pool v
+  seal_core w e drives pool v parts = either (suc e) w (Seals (suc e)) Clears drives pool v (λ less. (parts, tt)) (λ more. ((λ d. tt), tt))
 
   -- ---- the begins
 
@@ -465,13 +488,27 @@ module _ (o : Ordered) (plan : IsPlan o.plan) (a : Point) where
   date_turn b c i t core (Some l) act = ended c act.1.0
   date_turn b c i t core None act =
       goes_on c true (Records (record { index = i; size = act.file.size; triple = t; hashed = act.seconds }) 0) act.goes
-      (λ next. idle_core (Records (record { index = i; size = act.file.size; triple = t; hashed = act.seconds }) 0) b.at.drives c.at.drives c.pool c.world c.world act.drives refl ((λ d. parts d), (gave_off i t act.asked (off_card _ _ (clock_off o.source)) core.1, λ f is. size f is)))
+      (λ next. idle_core (Records (record { index = i; size = act.file.size; triple = t; hashed = act.seconds }) 0) b.at.drives c.at.drives c.pool c.world c.world act.drives refl (
+        (λ d. parts d),
+        record {
+          gave = gave_off i t act.asked (off_card _ _ (clock_off o.source)) core.1;
+          sized = λ f is. size f is;
+          dated = λ f is. dated f is;
+        },
+      ))
     where
       parts : (d : ℕ) → (d < 0 → due i (drive_at b.at.drives.each d) ≡ None) × (due i (drive_at b.at.drives.each d) ≡ None → IsReady o.plan (drive_at b.at.drives.each d) d c.world)
       parts d = (λ less. absurd (omega (arith, less)), λ not. ready_stays o.plan (drive_at b.at.drives.each d) d b.world c.world (same_elsewhere d (off_clock d) act.asked) (core.0 d not))
 
       size : (f : PlannedFile) → slice_get o.plan.files i ≡ Some f → act.file.size ≡ f.size
       size f is = ap (λ (g : PlannedFile). g.size) (some_same act.file f (sym act.is_file ∙ is))
+
+      -- the copy came to its end, and then its moment was asked
+      dated : (f : PlannedFile) → slice_get o.plan.files i ≡ Some f → Since (IsDated o f act.seconds) a.world c.world
+      dated f is =
+          let same : core.1.file ≡ f = some_same core.1.file f (sym core.1.is_file ∙ is) in
+          subst (λ (g : PlannedFile). Since (IsDated o g act.seconds) a.world c.world) same
+          (since_more core.1.reads act.asked (λ A B so on such. dated_next o core.1.file act.seconds A B so.1 such))
 
   module _ (b c : Point) (rec : Rec) (e : ℕ) (core : CoreAt (Records rec e) b.at.drives b.pool b.world) where
     not_recorded : due rec.index (drive_at b.at.drives.each e) ≡ None → Passes (after_record (length b.at.drives.each) (files_of o.plan) rec e) b.at.drives c.at b.world c.world → Core c
@@ -486,7 +523,7 @@ module _ (o : Ordered) (plan : IsPlan o.plan) (a : Point) where
     recorded : (was : Journaled) → due rec.index (drive_at b.at.drives.each e) ≡ Some was → RecordedAloud o rec e was b.at.drives c.at b.world c.world → Core c
     recorded was is act =
         goes_on c act.said (after_record (length b.at.drives.each) (files_of o.plan) rec e) act.goes
-        (λ next. record_core (length b.at.drives.each) (files_of o.plan) rec e c.at.drives c.pool c.world (count act.came act.stands) (λ d. parts d) (gave_off rec.index rec.triple act.line.went (off_card _ _ (output_off o.source)) (gave_off rec.index rec.triple act.went (off_card _ _ (drive_off o.source e)) core.1.0), core.1.1))
+        (λ next. record_core (length b.at.drives.each) (files_of o.plan) rec e c.at.drives c.pool c.world (count act.came act.stands) (λ d. parts d) (dated_off rec act.line.went (off_card _ _ (output_off o.source)) (dated_off rec act.went (off_card _ _ (drive_off o.source e)) core.1)))
       where
         line_same : (d : ℕ) → ReadsSame d act.mid c.world
         line_same d = same_elsewhere d (off_output d) act.line.went
@@ -534,12 +571,35 @@ module _ (o : Ordered) (plan : IsPlan o.plan) (a : Point) where
 
   -- ---- the sealing, and the end
 
-  seal_turn : (b c : Point) (e : ℕ) (x : DriveAt) → SealTurn o e x b.at.drives c.at b.world c.world → Core c
-  seal_turn b c e (Begun recs gate kept) t = goes_on c t.said (after_seal (length b.at.drives.each) e) t.goes (λ next. seal_core (length b.at.drives.each) e c.at.drives c.pool c.world)
-  seal_turn b c e (Found recs) t = goes_on c t.said (after_seal (length b.at.drives.each) e) t.goes (λ next. seal_core (length b.at.drives.each) e c.at.drives c.pool c.world)
-  seal_turn b c e Fresh t = absurd t
-  seal_turn b c e Gone t = goes_on c true (after_seal (length b.at.drives.each) e) t.goes (λ next. seal_core (length b.at.drives.each) e c.at.drives c.pool c.world)
-  seal_turn b c e Sealed t = goes_on c true (after_seal (length b.at.drives.each) e) t.goes (λ next. seal_core (length b.at.drives.each) e c.at.drives c.pool c.world)
+  -- the other drives are as they were
+  sealed_ready : (b c : Point) (e : ℕ) (x : DriveAt) → ((d : ℕ) → IsReady o.plan (drive_at b.at.drives.each d) d b.world) → Puts e x b.at.drives.each c.at.drives.each → IsReady o.plan x e c.world → ((d : ℕ) → d ≢ e → ReadsSame d b.world c.world)
+      → (d : ℕ) → IsReady o.plan (drive_at c.at.drives.each d) d c.world
+  sealed_ready b c e x old puts here same d = elim (cases_eq d e) [
+    | inl is ↦ subst (λ (k : ℕ). IsReady o.plan (drive_at c.at.drives.each k) k c.world) (sym is) (subst (λ (y : DriveAt). IsReady o.plan y e c.world) (sym puts.here) here)
+    | inr ne ↦ subst (λ (y : DriveAt). IsReady o.plan y d c.world) (sym (puts.others d ne)) (ready_stays o.plan (drive_at b.at.drives.each d) d b.world c.world (same d ne) (old d))
+  ]
+
+  module _ (b c : Point) (e : ℕ) (core : CoreAt (Seals e) b.at.drives b.pool b.world) where
+    sealed_aloud : (recs : List Rec) → SealedAloud o e recs b.at.drives c.at b.world c.world → Core c
+    sealed_aloud recs t = goes_on c t.said (after_seal (length b.at.drives.each) e) t.goes (λ next. seal_core (length b.at.drives.each) e c.at.drives c.pool c.world (parts t.came t.stands))
+      where
+        same : (d : ℕ) → d ≢ e → ReadsSame d b.world c.world
+        same d ne = reads_on d b.world t.mid c.world (reads_on d b.world t.dated t.mid (same_elsewhere d (off_clock d) t.asked) (same_elsewhere d (other_drive d e ne) t.went)) (same_elsewhere d (off_output d) t.line.went)
+
+        parts : (came : Result Unit SealError) → SealStands e came b.at.drives c.at.drives → (d : ℕ) → IsReady o.plan (drive_at c.at.drives.each d) d c.world
+        parts (Ok v) m d = sealed_ready b c e Sealed core.0 m.each (tt, tt) same d
+        parts (Err y) m d = sealed_ready b c e Gone core.0 m.each (tt, tt) same d
+
+    seal_passes : Passes (after_seal (length b.at.drives.each) e) b.at.drives c.at b.world c.world → Core c
+    seal_passes t = passes b c (after_seal (length b.at.drives.each) e) t (seal_core (length b.at.drives.each) e b.at.drives c.pool b.world core.0)
+
+    seal_turn : (x : DriveAt) → SealTurn o e x b.at.drives c.at b.world c.world → Core c
+    seal_turn (Begun recs gate kept) t = sealed_aloud recs t
+    seal_turn (Found recs) t = goes_on c t.said (after_seal (length b.at.drives.each) e) t.goes
+        (λ next. seal_core (length b.at.drives.each) e c.at.drives c.pool c.world (λ d. sealed_ready b c e Sealed core.0 t.stands.each (tt, tt) (λ k ne. same_elsewhere k (off_output k) t.line.went) d))
+    seal_turn Fresh t = absurd t
+    seal_turn Gone t = seal_passes t
+    seal_turn Sealed t = seal_passes t
 
   clear_turn : (b c : Point) (required sealed : ℕ) (due : Bool) → ClearTurn required sealed due c.at b.world c.world → Core c
   clear_turn b c required sealed true t = ended c t.ends.0
@@ -551,7 +611,7 @@ module _ (o : Ordered) (plan : IsPlan o.plan) (a : Point) where
   turn_core b c (Copies i copy) is core t = copy_turn b c i copy core.0 core.1 t
   turn_core b c (Dates i t) is core act = date_turn b c i t core (other_listed o.listed i t) act
   turn_core b c (Records rec e) is core t = record_turn b c rec e core (due rec.index (drive_at b.at.drives.each e)) refl t
-  turn_core b c (Seals e) is core t = seal_turn b c e (drive_at b.at.drives.each e) t
+  turn_core b c (Seals e) is core t = seal_turn b c e core (drive_at b.at.drives.each e) t
   turn_core b c Clears is core t = clear_turn b c o.copies (count_sealed b.at.drives.each) (is_clear (count_sealed b.at.drives.each) o.copies) t.1
   turn_core b c Ended is core t = ended c (ap (λ (k : At). k.phase) t.0 ∙ is)
 
@@ -600,7 +660,7 @@ module _ (o : Ordered) (plan : IsPlan o.plan) (a : Point) where
       unread = unread_off (suc i) t.went beside_none g.unread;
     }
     beside_gives (Dates i k) is g = gave_off i k t.went beside_none g
-    beside_gives (Records rec e) is g = (gave_off rec.index rec.triple t.went beside_none g.0, g.1)
+    beside_gives (Records rec e) is g = dated_off rec t.went beside_none g
     beside_gives (Seals e) is g = tt
     beside_gives Clears is g = tt
     beside_gives Ended is g = tt

@@ -1,16 +1,14 @@
 -- What a run reads of its card.
-use Rattle.std.specs.Prelude.{◌≡◌, ℕ, Bool, false, ◌&&◌, nat_eq, List, [], ◌∷◌, ◌++◌, Option, Some, unwrap_or}
+use Rattle.std.specs.Prelude.{◌≡◌, ℕ, Bool, true, false, ◌&&◌, nat_eq, List, [], ◌∷◌, ◌++◌, Option, Some, unwrap_or}
 use Rattle.std.specs.List.{slice_get, filter, flat_map}
 use Rattle.std.specs.Str.{bytes_eq}
 use Rattle.bay_core.specs.declared.event.Event.{Event}
-use Rattle.bay_core.specs.declared.event.Event.TheVariants.{SourceRead}
-use Rattle.digest_set.specs.declared.triple.Triple.{Triple}
-use Rattle.digest_set.specs.Triple.{triple}
+use Rattle.bay_core.specs.declared.event.Event.TheVariants.{SourceRead, Rename}
+use Rattle.bay_core.specs.Paths.{part_path}
 use Rattle.copy_plan.specs.declared.file.PlannedFile.{PlannedFile}
 use Rattle.fan_copier.specs.Follows.{InOrder, EndsAtSize}
-use Rattle.run_state.specs.declared.phase.Phase.TheVariants.{Dates}
-use Rattle.run_state.specs.Runs.{Point, Runs, IsPlanned}
-use Rattle.run_state.specs.State.{Ordered}
+use Rattle.run_state.specs.Runs.{Point, IsPlanned}
+use Rattle.run_state.specs.State.{Ordered, is_of_run}
 
 -- this call reads this path of card s
 abbrev pub is_read : ℕ → List ℕ → Event → Bool
@@ -30,19 +28,13 @@ got_in _ = []
 abbrev pub card_given : ℕ → List ℕ → List Event → List ℕ
 card_given s q L = flat_map got_in (reads_of s q L)
 
--- The copy of file i came to a good end on the way from a to b, with these digests: its moment was asked next.
-pub record IsCopiedBetween (o : Ordered) (a b : Point) (i : ℕ) (t : Triple) : Type 0 where
-  pub mid : Point
-  pub before : Runs o a mid
-  pub after : Runs o mid b
-  pub next : mid.at.phase ≡ Dates i t
-
--- Each planned file is read once: from its start on, each read where the one before ended. A file whose copy ended well was read to its planned
--- size, where one byte more was asked for last and none came; its digests are those of what was given.
-pub record ReadsOnce (o : Ordered) (a b : Point) (L : List Event) : Type 0 where
+-- Each planned file is read once: from its start on, each read where the one before ended. Before a drive of the run gives a part the path of a
+-- planned file, well or not, the last read of that file asked for one byte at its planned size, and none came; after that it is not read.
+pub record ReadsOnce (o : Ordered) (a : Point) (L : List Event) : Type 0 where
   pub in_order : (i : ℕ) (f : PlannedFile) → slice_get o.plan.files i ≡ Some f → InOrder o.source f.path 0 (reads_of o.source f.path L)
-  pub to_the_end : (i : ℕ) (f : PlannedFile) (t : Triple) → slice_get o.plan.files i ≡ Some f → IsCopiedBetween o a b i t
-      → EndsAtSize o.source f.path f.size (reads_of o.source f.path L) × (t ≡ triple (card_given o.source f.path L))
+  pub before_its_name : (e i : ℕ) (f : PlannedFile) → is_of_run a.at.drives e ≡ true → slice_get o.plan.files i ≡ Some f
+      → (before after : List Event) (ok : Bool) → L ≡ before ++ Rename e part_path f.path ok ∷ after
+      → EndsAtSize o.source f.path f.size (reads_of o.source f.path before) × (reads_of o.source f.path after ≡ [])
 
 -- each read of a card among these calls is of the run's card, and of a planned file
 pub record ReadsItsFiles (o : Ordered) (L : List Event) : Type 0 where

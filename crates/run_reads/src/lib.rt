@@ -3,4 +3,4 @@
 
 mod laws;
 
-pub use laws::{lines_are_read_back, parts_stand, reads_its_files, reads_once};
+pub use laws::{dones_are_dated, lines_are_read_back, parts_stand, reads_its_files, reads_once};

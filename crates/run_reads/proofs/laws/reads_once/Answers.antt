@@ -1,4 +1,4 @@
-use Rattle.run_reads.proofs.Once.{once}
+use Rattle.run_reads.proofs.Naming.{once}
 use Rattle.run_reads.proofs.laws.reads_once.Goals as goal
 
 pub returns : goal.returns
