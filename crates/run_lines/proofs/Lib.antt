@@ -1,0 +1,15 @@
+pub mod Since
+pub mod Texts
+pub mod Losses
+pub mod Marks
+pub mod Orders
+pub mod Counts
+pub mod Drives
+pub mod Starts
+pub mod Saying
+pub mod Exact
+pub mod Keeping
+pub mod Turns
+pub mod Runs
+pub mod Clearing
+pub mod Calling
