@@ -1,0 +1,15 @@
+pub mod Later
+pub mod Lines
+pub mod Drives
+pub mod Whole
+pub mod Turns
+pub mod Way
+pub mod Losing
+pub mod Saying
+pub mod Failing
+pub mod Ending
+pub mod Hearing
+pub mod Lengths
+pub mod Soundness
+pub mod Finding
+pub mod Renaming
