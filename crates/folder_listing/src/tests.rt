@@ -133,3 +133,39 @@ fn neighbours_in_byte_order_are_told_apart(rt: HostRuntime) -> Result<(), Fail> 
     }
     Ok(())
 }
+
+#[test]
+fn one_listing_is_in_the_way_of_many_paths(rt: HostRuntime) -> Result<(), Fail> {
+    let alloc = rt.alloc();
+    let list = "A001_2014-10-24_120000.mhl";
+    let below = "A001_2014-10-24_120000.mhl/x";
+    let names = [
+        ("a", 1),
+        ("a/b", 2),
+        ("ab", 3),
+        ("a/\n", 4),
+        (list, 5),
+        (below, 6),
+    ];
+    let folder = Folder::of_files(alloc, listing(alloc, &names)?)?;
+    // A path, whether it is crossed, and whether it is taken.
+    let table = [
+        ("a", true, true),
+        ("a/b", true, true),
+        ("a/c", true, true),
+        ("a/b/c", true, true),
+        ("ab", false, true),
+        ("ab/c", true, true),
+        ("a-b", false, false),
+        ("abc", false, false),
+        (list, true, true),
+        (below, true, true),
+        ("A001_2014-10-24_120000.mhl-x", false, false),
+        ("A001_2014-10-24_120000.mh", false, false),
+    ];
+    for (path, crossed, taken) in table {
+        assert_eq!(rt; folder.is_crossed(alloc, path)?, crossed, "at {path:?}");
+        assert_eq!(rt; folder.is_taken(alloc, path)?, taken, "at {path:?}");
+    }
+    Ok(())
+}

@@ -376,6 +376,12 @@ fn says_the_lines_of_a_verification(rt: &impl Abort, out: &mut Scratch) {
         &Line::Verdict("bad", 18_446_744_073_709_551_615, 1, 2, 30, 405),
         "verdict bad 18446744073709551615 entries 1 missing 2 altered 30 unchecked 405 unlisted",
     );
+    says(
+        rt,
+        out,
+        &Line::Verdict("unchecked", 2, 0, 0, 1, 0),
+        "verdict unchecked 2 entries 0 missing 0 altered 1 unchecked 0 unlisted",
+    );
 }
 
 fn says_why_a_list_is_unreadable(rt: &impl Abort, out: &mut Scratch) {
@@ -387,14 +393,71 @@ fn says_why_a_list_is_unreadable(rt: &impl Abort, out: &mut Scratch) {
         "unreadable toolarge 536870913",
     );
     says(rt, out, &Line::UnreadableVersion, "unreadable version");
+    says(rt, out, &Line::Memory, "memory");
+    assert_eq!(rt; memory_line(), b"memory".as_slice());
+}
+
+fn says_the_faults_of_a_list(rt: &impl Abort, out: &mut Scratch) {
+    says(
+        rt,
+        out,
+        &Line::Unreadable("notutf8", 3),
+        "unreadable notutf8 3",
+    );
+    says(
+        rt,
+        out,
+        &Line::Unreadable("malformed", 24),
+        "unreadable malformed 24",
+    );
+    says(
+        rt,
+        out,
+        &Line::Unreadable("doctype", 0),
+        "unreadable doctype 0",
+    );
+    says(
+        rt,
+        out,
+        &Line::Unreadable("cdata", 24),
+        "unreadable cdata 24",
+    );
+    says(
+        rt,
+        out,
+        &Line::Unreadable("nofile", 24),
+        "unreadable nofile 24",
+    );
+    says(
+        rt,
+        out,
+        &Line::Unreadable("twice", 57),
+        "unreadable twice 57",
+    );
     says(
         rt,
         out,
         &Line::Unreadable("badpath", 30),
         "unreadable badpath 30",
     );
-    says(rt, out, &Line::Memory, "memory");
-    assert_eq!(rt; memory_line(), b"memory".as_slice());
+    says(
+        rt,
+        out,
+        &Line::Unreadable("badsize", 30),
+        "unreadable badsize 30",
+    );
+    says(
+        rt,
+        out,
+        &Line::Unreadable("baddigest", 30),
+        "unreadable baddigest 30",
+    );
+    says(
+        rt,
+        out,
+        &Line::Unreadable("toomany", 18_446_744_073_709_551_615),
+        "unreadable toomany 18446744073709551615",
+    );
 }
 
 fn says_other_digests<'a>(
@@ -443,5 +506,6 @@ fn says_each_line(rt: HostRuntime) -> Result<(), Fail> {
     refuses_drives(&rt, &mut out);
     says_the_lines_of_a_verification(&rt, &mut out);
     says_why_a_list_is_unreadable(&rt, &mut out);
+    says_the_faults_of_a_list(&rt, &mut out);
     Ok(())
 }

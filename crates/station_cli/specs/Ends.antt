@@ -7,8 +7,9 @@ use Rattle.bay_core.specs.Went.{Went, Only}
 use Rattle.bay_core.specs.Looks.{says}
 use Rattle.mhl_reader.specs.declared.error.ReadError.{ReadError}
 use Rattle.mhl_reader.specs.declared.error.ReadError.TheVariants.{NotUtf8, Malformed, Doctype, Cdata, Version, NoFile, Twice, BadPath, BadSize, BadDigest, TooMany, Memory as MemoryRead}
-use Rattle.report_text.specs.Line.{unreadable_toolarge_text, unreadable_text}
+use Rattle.report_text.specs.Line.{line_text, unreadable_toolarge_text, unreadable_text}
 use Rattle.report_text.specs.Losses.{failed_attach_drive_text}
+use Rattle.report_text.specs.declared.line.Line.TheVariants.{RefusedWords, FailedDrive, UnreadableAbsent, UnreadableVersion, Memory as MemoryLine}
 use Rattle.verify_run.specs.declared.loading.LoadError.{LoadError}
 use Rattle.verify_run.specs.declared.loading.LoadError.TheVariants.{DriveFailed, Absent, TooLarge, Unreadable, Memory}
 use Rattle.verify_run.specs.declared.verdict.VerifyError.{VerifyError}
@@ -31,16 +32,16 @@ abbrev pub with_status : ℕ → End
 with_status status = record { lines = []; status = status }
 
 abbrev pub memory_end : End
-memory_end = with_line (codes "memory") 9
+memory_end = with_line (line_text MemoryLine) 9
 
 abbrev pub words_end : End
-words_end = with_line (codes "refused words") 2
+words_end = with_line (line_text RefusedWords) 2
 
 abbrev pub attach_end : End
 attach_end = with_line (failed_attach_drive_text 0) 4
 
 abbrev pub drive_end : End
-drive_end = with_line (codes "failed drive") 8
+drive_end = with_line (line_text FailedDrive) 8
 
 -- good 0, bad 1, unchecked 6
 abbrev pub outcome_status : Outcome → ℕ
@@ -54,7 +55,7 @@ fault_end (NotUtf8 at) = with_line (unreadable_text (codes "notutf8") at) 7
 fault_end (Malformed at) = with_line (unreadable_text (codes "malformed") at) 7
 fault_end (Doctype at) = with_line (unreadable_text (codes "doctype") at) 7
 fault_end (Cdata at) = with_line (unreadable_text (codes "cdata") at) 7
-fault_end Version = with_line (codes "unreadable version") 7
+fault_end Version = with_line (line_text UnreadableVersion) 7
 fault_end (NoFile at) = with_line (unreadable_text (codes "nofile") at) 7
 fault_end (Twice at) = with_line (unreadable_text (codes "twice") at) 7
 fault_end (BadPath at) = with_line (unreadable_text (codes "badpath") at) 7
@@ -66,7 +67,7 @@ fault_end MemoryRead = memory_end
 -- a list that was not loaded
 abbrev pub load_end : LoadError → End
 load_end DriveFailed = drive_end
-load_end Absent = with_line (codes "unreadable absent") 7
+load_end Absent = with_line (line_text UnreadableAbsent) 7
 load_end (TooLarge len) = with_line (unreadable_toolarge_text len) 7
 load_end (Unreadable e) = fault_end e
 load_end Memory = memory_end
