@@ -1,11 +1,10 @@
 -- Which calls of an act on one drive, and of a turn of a copy, failed, by what came of it.
-use Rattle.std.proofs.Common.{◌≡◌, ◌⊎◌, inl, inr, ℕ, ◌+◌, ◌*◌, Bool, true, false, List, [], ◌∷◌, ◌++◌, length, refl, sym, subst}
+use Rattle.std.proofs.Common.{inl, inr, ℕ, ◌+◌, ◌*◌, Bool, true, false, List, [], ◌∷◌, ◌++◌, length, refl, sym, subst}
 use Rattle.std.specs.Prelude.{Option, Some, None, Result, Ok, Err}
 use Rattle.bay_core.specs.declared.event.Event.{Event}
-use Rattle.bay_core.specs.declared.event.Event.TheVariants.{Sync, Pick, DriveRead, SourceRead}
 use Rattle.bay_core.specs.Looks.{read_call, piece, Tiles}
 use Rattle.bay_core.specs.Paths.{new_path, part_path}
-use Rattle.bay_core.specs.Replay.{Device, Source, Drive}
+use Rattle.bay_core.specs.Replay.{Source, Drive}
 use Rattle.bay_core.specs.Went.{Ran, Then, write_call, sync_call}
 use Rattle.digest_set.specs.declared.triple.Triple.{Triple}
 use Rattle.drive_journal.specs.declared.record.Gate.{Gate}
@@ -16,7 +15,7 @@ use Rattle.fan_core.specs.declared.act.Act.{Act}
 use Rattle.fan_core.specs.declared.act.Act.TheVariants.{Read, Write, Finished}
 use Rattle.fan_core.specs.Flags.{has}
 use Rattle.fan_copier.specs.declared.turn.Turn.{Turn}
-use Rattle.fan_copier.specs.declared.turn.Turn.TheVariants.{Going, Dropped, Copied, SourceFailed, Changed, NoDrive}
+use Rattle.fan_copier.specs.declared.turn.Turn.TheVariants.{Going, Dropped, Copied, SourceFailed, Changed}
 use Rattle.fan_copier.specs.Reads.{OnCard}
 use Rattle.fan_copier.specs.Standing.{Standing, block_len, block_of}
 use Rattle.fan_copier.specs.Turning.{Doing, EmptyPiece, Acting, StandsAfter, ActCalls, TurnCalls}

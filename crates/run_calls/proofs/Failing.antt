@@ -1,14 +1,12 @@
 -- Calls of which none failed, or the last one alone.
 use Rattle.std.proofs.Common.{◌≡◌, ◌⊎◌, inl, inr, ℕ, ◌+◌, Bool, true, false, List, [], ◌∷◌, ◌++◌, length, refl, sym, subst}
 use Rattle.bay_core.specs.declared.event.Event.{Event}
-use Rattle.bay_core.specs.declared.event.Event.TheVariants.{Write, Sync, Rename, Remove, DriveRead}
-use Rattle.bay_core.specs.declared.event.DriveGot.TheVariants.{Absent}
 use Rattle.bay_core.specs.Looks.{has_failed}
 use Rattle.bay_core.specs.Paths.{part_path}
 use Rattle.bay_core.specs.Replay.{Device, Drive, device_of}
-use Rattle.bay_core.specs.Went.{Ran, Then, write_call, sync_call}
+use Rattle.bay_core.specs.Went.{Ran, write_call, sync_call}
 use Rattle.drive_journal.specs.Calls.{removals, publish_calls, place_calls, open_calls}
-use Rattle.fan_copier.specs.Reads.{File, OnCard, OnDrive, device, gave, failed, IsAbsent, GaveNone, MayFail, Piece, Tiles, EndsAt, CutAt, Gathered}
+use Rattle.fan_copier.specs.Reads.{File, OnCard, OnDrive, device, gave, failed, IsAbsent, GaveNone, MayFail, Tiles, EndsAt, CutAt, Gathered}
 use Rattle.fan_copier.specs.Turning.{MendCalls, WriteCalls}
 use Rattle.seal_step.specs.Parts.{writes_from, drafting, naming}
 use Rattle.run_calls.specs.Own.{is_listing, NoListing}

@@ -1,16 +1,15 @@
 -- What follows a call that failed, over any number of turns.
-use Rattle.std.proofs.Common.{◌≡◌, ◌≢◌, ◌⊎◌, inl, inr, ℕ, ◌<◌, ◌≤◌, Bool, true, false, List, [], ◌∷◌, ◌++◌, length, refl, sym, ap, ◌∙◌, subst, arith}
+use Rattle.std.proofs.Common.{◌≡◌, ◌⊎◌, inl, inr, ℕ, ◌<◌, ◌≤◌, Bool, true, false, List, [], ◌∷◌, ◌++◌, refl, sym, ap, ◌∙◌, subst, arith}
 use Rattle.std.specs.Prelude.{codes, not, ◌||◌, nat_lt, Some}
-use Rattle.std.proofs.lemmas.Bool.{cases_Bool, cases_eq, false≢true, ltb-true, ltb-false}
+use Rattle.std.proofs.lemmas.Bool.{cases_Bool, false≢true, ltb-true, ltb-false}
 use Rattle.bay_core.specs.declared.event.Event.{Event}
 use Rattle.bay_core.specs.declared.event.Event.TheVariants.{Say}
 use Rattle.bay_core.specs.Looks.{has_failed}
-use Rattle.bay_core.specs.Replay.{Device, Source, Drive, Attaching, Output, Clock, Picker, calls_on, device_of, is_on}
+use Rattle.bay_core.specs.Replay.{Device, Source, Drive, Attaching, Output, Clock, Picker, calls_on, device_of}
 use Rattle.bay_core.specs.Went.{AllOn, Went, NoCall}
 use Rattle.bay_core.specs.World.{World}
 use Rattle.bay_core.proofs.Replays.{calls_on-append}
 use Rattle.bay_core.proofs.Runs.{went_none, went_such, went_then, since_made}
-use Rattle.block_pool.specs.Lent.{PoolState}
 use Rattle.fan_core.specs.Flags.{has}
 use Rattle.run_state.specs.declared.phase.Phase.{Phase}
 use Rattle.run_state.specs.declared.phase.Phase.TheVariants.{Begins, File, Copies, Dates, Records, Seals, Clears, Ended}
@@ -19,15 +18,16 @@ use Rattle.run_state.specs.declared.outcome.Outcome.TheVariants.{SourceFailed, O
 use Rattle.run_state.specs.Acts.{Ends}
 use Rattle.run_state.specs.Calls.{IsOfRun, AreTurnCalls}
 use Rattle.run_state.specs.Rules.{IsOver, IsRun}
-use Rattle.run_state.specs.Runs.{Point, begins_with, is_about, IsElsewhere, AreBeside, Beside, Alone, still, turned, Runs, starts, turns, beside}
-use Rattle.run_state.specs.State.{Ordered, DriveAt, Gone, Drives, At, IsCalled, drive_at, is_gone, is_of_run}
+use Rattle.run_state.specs.Runs.{Point, begins_with, IsElsewhere, AreBeside, Beside, Alone, still, turned, Runs, starts, turns, beside}
+use Rattle.run_state.specs.State.{Ordered, DriveAt, Gone, At, IsCalled, drive_at, is_gone, is_of_run}
 use Rattle.run_state.specs.Turn.{Acted, Turned}
 use Rattle.run_state.proofs.Drives.{none_past}
 use Rattle.run_state.proofs.Passing.{TheRules, TheCalls, TurnsAlone, turn_passed, of_run_low}
+use Rattle.run_ends.proofs.Lines.{none_there, no_line, line_beside, not_about}
 use Rattle.run_calls.specs.Failures.{IsDropped, IsLeft, IsToldNext, Halts, NoneAfterFailure, NoneAfterLoss}
-use Rattle.run_calls.proofs.Lists.{IsAny, split_at, none_there, only_one, none_failed, failed_last, no_line, with_on, went_both, on_at, on_behind, calls_off, apart_off, beside_at}
+use Rattle.run_calls.proofs.Lists.{IsAny, IsMute, split_at, only_one, none_failed, failed_last, with_on, went_both, on_at, on_behind, calls_off, apart_off}
 use Rattle.run_calls.proofs.Own.{own_calls}
-use Rattle.run_calls.proofs.Turns.{EndsBy, LineIs, OneTurn, CopyKnown, acted_turn, not_lost}
+use Rattle.run_calls.proofs.Turns.{EndsBy, LineIs, OneTurn, CopyKnown, acted_turn}
 
 -- ---- in one turn
 
@@ -76,7 +76,7 @@ module _ (new : At) (B : List Event) (t : OneTurn new B) where
 
   turn_drops : (k : ℕ) → k < 8 → (front back : List Event) (line : List ℕ) (ok : Bool) → B ≡ front ++ Say line ok ∷ back → begins_with (codes "dropped") k line ≡ true → IsLeft k new back
   turn_drops k small front back line ok is begins = elim (split_at t.calls t.line front back (Say line ok) (sym t.is ∙ is)) [
-    | inl found ↦ absurd (no_line t.calls t.mute front found.0 line ok found.1)
+    | inl found ↦ absurd (no_line IsMute (λ y on. on) t.calls t.mute front found.0 line ok found.1)
     | inr found ↦ lost_line k small found.0 back line ok found.2 begins t.said
   ]
 
@@ -258,7 +258,7 @@ module _ (o : Ordered) (m b : Point) (d : ℕ) (of : is_of_run m.at.drives d ≡
     ];
     dropped = λ front back line ok is begins. elim (split_at L B front back (Say line ok) is) [
       | inl found ↦ subst (IsLeft d b.at) (sym found.2) (left_beside found.0 (h.dropped front found.0 line ok found.1 begins))
-      | inr found ↦ absurd (false≢true (sym (not_lost d line (beside_at o m.at.drives found.0 back (Say line ok) (subst (AreBeside o m.at.drives) found.2 are) d of)) ∙ begins))
+      | inr found ↦ absurd (false≢true (sym (not_about d line (line_beside o m.at.drives found.0 back line ok (subst (AreBeside o m.at.drives) found.2 are) d of)) ∙ begins))
     ];
   }
 

@@ -1,9 +1,8 @@
 -- A run whose scratch files are as its next turn asks for them knows what it copies, records and seals next.
-use Rattle.std.proofs.Common.{◌≡◌, ℕ, ◌≤◌, true, false, List, length, refl, sym, ap, ◌∙◌, subst, arith}
+use Rattle.std.proofs.Common.{◌≡◌, ℕ, true, false, List, sym, ap, ◌∙◌, subst, arith}
 use Rattle.std.specs.Prelude.{Option, Some, option_map, is_some}
 use Rattle.std.specs.List.{slice_get}
-use Rattle.bay_core.specs.declared.event.Event.{Event}
-use Rattle.bay_core.specs.Map.{Map, content}
+use Rattle.bay_core.specs.Map.{content}
 use Rattle.bay_core.specs.World.{World}
 use Rattle.block_pool.specs.Lent.{PoolState}
 use Rattle.copy_plan.specs.declared.file.PlannedFile.{PlannedFile}

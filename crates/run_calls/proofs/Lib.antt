@@ -5,3 +5,4 @@ pub mod Turns
 pub mod Own
 pub mod Halting
 pub mod Knowing
+pub mod Reading

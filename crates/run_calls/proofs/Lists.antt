@@ -1,20 +1,16 @@
 -- A call among calls, and the devices of calls.
 use Rattle.std.proofs.Common.{◌≡◌, ◌≢◌, ◌⊎◌, inl, inr, ℕ, Bool, true, false, cond, List, [], ◌∷◌, ◌++◌, refl, sym, ap, ◌∙◌, subst, arith}
 use Rattle.std.specs.Prelude.{nat_eq}
-use Rattle.std.specs.List.{AllByRecursion}
 use Rattle.std.proofs.lemmas.Bool.{cases_Bool, false≢true}
 use Rattle.std.proofs.lemmas.Bool.Decides.{nat_tests}
 use Rattle.std.proofs.lemmas.List.{append_cancel_left}
 use Rattle.bay_core.specs.declared.event.Event.{Event}
-use Rattle.bay_core.specs.declared.event.Event.TheVariants.{Say}
 use Rattle.bay_core.specs.Looks.{has_failed}
-use Rattle.bay_core.specs.Replay.{Device, Source, Drive, Attaching, Output, Clock, Picker, calls_on, device_of, is_on}
+use Rattle.bay_core.specs.Replay.{Device, Drive, Output, calls_on, device_of, is_on}
 use Rattle.bay_core.specs.Went.{AllOn, Went}
 use Rattle.bay_core.specs.World.{World}
 use Rattle.bay_core.proofs.Runs.{told_since}
-use Rattle.run_state.specs.Calls.{IsOfRun}
-use Rattle.run_state.specs.Runs.{IsBeside, AreBeside}
-use Rattle.run_state.specs.State.{Ordered, Drives, IsCalled, drive_at}
+use Rattle.run_ends.proofs.Lines.{none_there}
 use Rattle.run_calls.proofs.Failing.{NoneFails, LastFails}
 
 -- ---- a call among calls
@@ -31,11 +27,6 @@ split_at (x ∷ A) B (y ∷ before) after e is =
       | inl found ↦ inl (found.0, ap (λ (z : Event). z ∷ A) head ∙ ap (λ (l : List Event). y ∷ l) found.1, found.2)
       | inr found ↦ inr (found.0, ap (λ (z : Event). z ∷ before) (sym head) ∙ ap (λ (l : List Event). x ∷ l) found.1, found.2)
     ]
-
--- there is nothing in no list
-pub none_there : (before after : List Event) (e : Event) → [] ≡ before ++ e ∷ after → ⊥
-none_there [] after e is = absurd (cc is)
-none_there (x ∷ before) after e is = absurd (cc is)
 
 -- the one call of a list
 pub only_one : (x e : Event) (front back : List Event) → x ∷ [] ≡ front ++ e ∷ back → (e ≡ x) × (back ≡ [])
@@ -65,19 +56,11 @@ failed_last x (h ∷ L) l (y ∷ front) back e is bad =
       | inr more ↦ failed_last x L more.1 front back e rest bad
     ]
 
--- ---- no line
+-- ---- devices
 
--- no line is among these calls
+-- any device but the output
 abbrev pub IsMute : Device → Type 0
 IsMute x = x ≢ Output
-
-pub no_line : (L : List Event) → AllOn IsMute L → (front back : List Event) (line : List ℕ) (ok : Bool) → L ≡ front ++ Say line ok ∷ back → ⊥
-unfolding AllOn
-no_line [] on front back line ok is = none_there front back (Say line ok) is
-no_line (x ∷ L) on [] back line ok is = let head : x ≡ Say line ok = cc is in on.0 (ap device_of head)
-no_line (x ∷ L) on (y ∷ front) back line ok is = let rest : L ≡ front ++ Say line ok ∷ back = cc is in no_line L on.1 front back line ok rest
-
--- ---- devices
 
 -- any device
 abbrev pub IsAny : Device → Type 0
@@ -129,19 +112,14 @@ calls_off d On off (e ∷ L) on = ap (λ (b : Bool). cond b (e ∷ calls_on d L)
 same_number : (d e : ℕ) → nat_eq d e ≡ true → d ≡ e
 same_number d e is = grind (arith, nat_tests)
 
--- the device of a drive that is none of such devices
+-- a device that is drive d
 pub is_drive : (d : ℕ) (y : Device) → is_on d y ≡ true → y ≡ Drive d
 is_drive d (Drive e) on = ap Drive (sym (same_number d e on))
 is_drive d y on = absurd (false≢true on)
 
+-- devices of which drive d is none
 pub apart_off : (d : ℕ) (On : Device → Type 0) → (On (Drive d) → ⊥) → (y : Device) → On y → is_on d y ≡ false
 apart_off d On none y on = elim (cases_Bool (is_on d y)) [
   | inl is ↦ absurd (none (subst On (is_drive d y is) on))
   | inr not_so ↦ not_so
 ]
-
--- what is said of a call of others
-pub beside_at : (o : Ordered) (drives : Drives) (front back : List Event) (e : Event) → AreBeside o drives (front ++ e ∷ back) → IsBeside o drives e
-unfolding AreBeside
-beside_at o drives [] back e are = are.0
-beside_at o drives (x ∷ front) back e are = beside_at o drives front back e are.1

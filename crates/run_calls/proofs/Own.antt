@@ -1,10 +1,9 @@
 -- What the turns of a run call, and that they list nothing.
-use Rattle.std.proofs.Common.{◌≡◌, ◌≢◌, ◌⊎◌, inl, inr, ℕ, Bool, true, false, List, [], ◌∷◌, ◌++◌, length, refl, sym, ap, ◌∙◌, subst}
-use Rattle.std.specs.Prelude.{codes}
+use Rattle.std.proofs.Common.{◌≡◌, ◌⊎◌, inl, inr, ℕ, Bool, true, false, List, [], ◌∷◌, ◌++◌, refl, sym, ap, ◌∙◌, subst}
 use Rattle.bay_core.specs.declared.event.Event.{Event}
 use Rattle.bay_core.specs.declared.event.Event.TheVariants.{Say, Pick, SourceRead, DriveRead, Write as Writes}
 use Rattle.bay_core.specs.Replay.{Device, Source, Drive, Attaching, Output, Clock, Picker}
-use Rattle.bay_core.specs.Went.{Went, NoCall, Ran, say_call}
+use Rattle.bay_core.specs.Went.{Went, Ran, say_call}
 use Rattle.bay_core.specs.World.{World}
 use Rattle.bay_core.proofs.Runs.{went_none, went_such, went_on, went_then}
 use Rattle.block_pool.specs.Lent.{PoolState}
@@ -18,15 +17,15 @@ use Rattle.report_text.specs.Losses.{dropped_fault_text}
 use Rattle.run_state.specs.declared.phase.Phase.{Phase}
 use Rattle.run_state.specs.declared.phase.Phase.TheVariants.{Begins, File, Copies, Dates, Records, Seals, Clears, Ended}
 use Rattle.run_state.specs.Acts.{CopySettles, CopyActed}
-use Rattle.run_state.specs.Calls.{IsOfRun, AreTurnCalls}
+use Rattle.run_state.specs.Calls.{IsOfRun}
 use Rattle.run_state.specs.Rules.{IsRun, Fits}
-use Rattle.run_state.specs.Runs.{Point, Alone, still, turned, Runs}
+use Rattle.run_state.specs.Runs.{Point, Alone, still, turned}
 use Rattle.run_state.specs.State.{Ordered, DriveAt, Gone, Fresh, Begun, Found, Sealed, At, IsCalled, files_of, drive_at}
-use Rattle.run_state.specs.Turn.{Acted, Turned}
+use Rattle.run_state.specs.Turn.{Acted}
 use Rattle.run_state.proofs.Passing.{TheRules, TheCalls, TurnsAlone, turn_passed}
 use Rattle.run_calls.specs.Own.{is_listing, NoListing}
 use Rattle.run_calls.proofs.Failing.{none_lists, last_lists}
-use Rattle.run_calls.proofs.Lists.{IsAny, with_on, went_both}
+use Rattle.run_calls.proofs.Lists.{IsAny, went_both}
 use Rattle.run_calls.proofs.Turns.{EndsBy, LineIs, OneTurn, acted_turn}
 
 lists_then : (A B : List Event) → NoListing A → NoListing B → NoListing (A ++ B)

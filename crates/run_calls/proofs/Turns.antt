@@ -1,6 +1,6 @@
 -- The calls of one turn of a run: none failed, or the last one; and then at most a line.
 use Rattle.std.proofs.Common.{◌≡◌, ◌≢◌, ◌⊎◌, inl, inr, ℕ, ◌^◌, ◌<◌, Bool, true, false, List, [], ◌∷◌, ◌++◌, length, refl, sym, ap, ◌∙◌, subst, arith, append-nil}
-use Rattle.std.specs.Prelude.{Option, Some, None, is_some, codes, Result, Ok, Err, if◌then◌else◌, ◌||◌}
+use Rattle.std.specs.Prelude.{Option, Some, None, codes, Result, Ok, Err, if◌then◌else◌}
 use Rattle.std.proofs.lemmas.Bool.{cases_eq, false≢true}
 use Rattle.std.proofs.lemmas.List.{get_or-set_same}
 use Rattle.bay_core.specs.declared.event.Event.{Event}
@@ -26,7 +26,7 @@ use Rattle.fan_copier.specs.Turning.{Turned as CopyTurned, Touches, GoOn, TurnCa
 use Rattle.read_back.specs.declared.back.ReadBackError.{ReadBackError}
 use Rattle.read_back.specs.declared.back.ReadBackError.TheVariants.{DriveFailed as BackFailed, Absent as BackAbsent, Length as BackLength, Differs}
 use Rattle.recording.specs.Filing.{RecordCalls}
-use Rattle.report_text.specs.Run.{begun_text, done_text, sealed_text, clear_text}
+use Rattle.report_text.specs.Run.{begun_text, sealed_text, clear_text}
 use Rattle.report_text.specs.Losses.{dropped_fault_text}
 use Rattle.seal_step.specs.declared.error.SealError.{SealError}
 use Rattle.seal_step.specs.declared.error.SealError.TheVariants.{DriveFailed as SealFailed, Absent as ListAbsent, Byte as ListByte, Length as ListLength}
@@ -44,6 +44,7 @@ use Rattle.run_state.proofs.Calls.{called_if_due, called_not_gone}
 use Rattle.run_state.proofs.Drives.{there}
 use Rattle.run_state.proofs.Keeping.{due_begun}
 use Rattle.run_state.proofs.Lines.{fault_off, record_off, seal_off}
+use Rattle.run_ends.proofs.Lines.{not_about}
 use Rattle.run_calls.specs.Failures.{IsDropped, IsToldNext}
 use Rattle.run_calls.proofs.Failing.{NoneFails, LastFails, none_then, last_then, ran_none, ran_last, tidy_on, begin_on, AreCallsOn}
 use Rattle.run_calls.proofs.Acts.{record_fails, SealFails, seal_fails, copy_fails, CopyFails}
@@ -87,18 +88,6 @@ said_or text false B (inr (inr (rest, is, more))) = absurd more
 goes_out : (said : Bool) (next : Phase) (new : At) → Goes said next new → said ≡ false → Ends OutFailed new
 goes_out false next new g is = g
 goes_out true next new g is = absurd (false≢true (sym is))
-
-last_off : (a b : Bool) → (a || b) ≡ false → b ≡ false
-last_off true b off = absurd (false≢true (sym off))
-last_off false b off = off
-
--- a line that is about no such drive is not that of its loss
-pub not_lost : (d : ℕ) (line : List ℕ) → is_about d line ≡ false → begins_with (codes "dropped") d line ≡ false
-not_lost d line off =
-    let s = begins_with (codes "sealed") d line in
-    let n = begins_with (codes "done") d line in
-    let l = begins_with (codes "dropped") d line in
-    last_off s l (last_off n (s || l) (last_off (begins_with (codes "begun") d line) (n || (s || l)) off))
 
 drive_mute : (d : ℕ) (y : Device) → Only (Drive d) y → IsMute y
 drive_mute d y on = λ is. absurd (cc (sym on ∙ is))
@@ -185,7 +174,7 @@ module _ (o : Ordered) (old new : At) (rules : IsRun o old) where
       → (k : ℕ) → k < 8 → begins_with (codes "dropped") k text ≡ true → IsDropped k new.drives
   lost_line d text live off m k small begins = elim (cases_eq k d) [
     | inl same ↦ subst (λ (n : ℕ). IsDropped n new.drives) (sym same) (was_dropped d live m)
-    | inr differ ↦ absurd (false≢true (sym (not_lost k text (off k (omega (arith, small)) (low d live) differ)) ∙ begins))
+    | inr differ ↦ absurd (false≢true (sym (not_about k text (off k (omega (arith, small)) (low d live) differ)) ∙ begins))
   ]
 
   begun_turn : (d : ℕ) (x : DriveAt) (before after : World) → drive_at old.drives.each d ≡ x → is_gone x ≡ false → (cs : List (Bool → Event)) → AreCallsOn (Drive d) cs → (a : BegunAloud o d x old.drives new before after)

@@ -9,7 +9,7 @@ ghost use Rattle.run_state.specs.Rules.{IsRun, IsStart};
 ghost use Rattle.run_state.specs.Runs.{Point, Alone, Runs};
 ghost use Rattle.run_state.specs.State.{Ordered, is_of_run};
 ghost use Rattle.run_steps.specs.Parts.{PartsReady};
-ghost use Rattle.run_ends.specs.Known.{IsKnownOnward};
+ghost use Rattle.run_ends.specs.Known.{IsKnownOnward, KnowsReadsOnward};
 ghost use Rattle.run_ends.specs.Renames.{RenamesWhatIsThere};
 ghost use Rattle.run_calls.specs.Failures.{NoneAfterFailure, NoneAfterLoss};
 ghost use Rattle.run_calls.specs.Own.{NoListing};
@@ -44,9 +44,11 @@ pub fn none_after_failure()
 }
 
 /// A run whose scratch files are as its next turn asks for them knows at each later point what it copied, records and seals
-/// next. So what `run_ends` says of such runs holds of each that began so.
+/// next; and from its begin on a copy knows the bytes that the card's reads of its file gave. So what `run_ends` says of runs
+/// that know this holds of each that began so.
 pub fn a_run_knows_what_it_does()
-    ensures { (o : Ordered) (a : Point) → IsRun o a.at → PartsReady o a → IsKnownOnward o a }
+    ensures parts { (o : Ordered) (a : Point) → IsRun o a.at → PartsReady o a → IsKnownOnward o a }
+    ensures reads { (o : Ordered) (a : Point) → IsStart o a.at → PartsReady o a → KnowsReadsOnward o a }
 {
     turns_keep_the_rules();
     parts_stay_ready();
