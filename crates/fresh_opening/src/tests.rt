@@ -1,5 +1,5 @@
 // Openings over a bay in memory: what is answered, and the lines that are said.
-ghost use Rattle.std.specs.Prelude.{◌<◌, IfOk};
+ghost use Rattle.std.specs.Prelude.{◌<◌, ◌≤◌, IfOk};
 ghost use Rattle.bay_mem.specs.State.{world_of};
 
 use crate::{FreshError, open_fresh, open_plan};
@@ -50,7 +50,8 @@ fn map_of(alloc: Global, files: Files) -> Result<MemMap, Fail> {
 
 // A bay with card 0 and the drives 0 and 1, which have these files.
 fn bay_with(alloc: Global, card: Files, first: Files, second: Files) -> Result<MemBay, Fail>
-    ensures { IfOk result (λ bay. (0 < (world_of bay.seen).attached.sources) × (1 < (world_of bay.seen).attached.drives)) }
+    ensures card { IfOk result (λ bay. 0 < (world_of bay.seen).attached.sources) }
+    ensures drives { IfOk result (λ bay. 2 ≤ (world_of bay.seen).attached.drives) }
 {
     let mut bay = MemBay::new(alloc);
     bay.add_source("C", map_of(alloc, card)?)?;
