@@ -1,0 +1,9 @@
+pub mod Finding
+pub mod Placing
+pub mod Refusing
+pub mod Joining
+pub mod Truth
+pub mod Answering
+pub mod Faults
+pub mod Sameness
+pub mod Gone

@@ -1,0 +1,15 @@
+//! The opening of an offload: its drives are looked at and its plan is made, and it may begin; or why it may not.
+#![tactic(auto)]
+
+mod error;
+mod laws;
+mod looking;
+mod opening;
+mod planning;
+mod starting;
+#[cfg(test)]
+mod tests;
+
+pub use error::FreshError;
+pub use laws::one_refusal;
+pub use opening::{open_fresh, open_plan};
