@@ -2,7 +2,6 @@
 use Rattle.std.proofs.Common.{◌≡◌, inl, inr, ℕ, ◌<◌, Bool, true, false, List, refl, sym, ◌∙◌, ap, subst, arith}
 use Rattle.std.specs.Prelude.{Option, Some, None, Result, Ok, Err, is_some}
 use Rattle.std.proofs.lemmas.Bool.{cases_eq, false≢true}
-use Rattle.bay_core.specs.Went.{Went}
 use Rattle.bay_core.specs.World.{World, Attached}
 use Rattle.block_pool.specs.Lent.{PoolState}
 use Rattle.digest_set.specs.declared.triple.Triple.{Triple}
@@ -20,8 +19,6 @@ use Rattle.run_state.specs.Acts.{Puts, BeginTurn, MovesOrDrops, FileTurn, CopySe
 use Rattle.run_state.specs.Rules.{CanTurn, KeepsRunPool}
 use Rattle.run_state.specs.State.{Ordered, DriveAt, Gone, Fresh, Begun, Found, Sealed, Journaled, Drives, At, drive_at, is_gone, due, files_of}
 use Rattle.run_state.specs.Turn.{Acted}
-use Rattle.run_state.specs.Calls.{IsOfRun}
-use Rattle.offload_run.specs.Offload.{AreAny}
 
 -- a drive on which a file is due is not gone
 due_there : (i : ℕ) (x : DriveAt) → is_some (due i x) ≡ true → is_gone x ≡ false
@@ -110,11 +107,11 @@ turn_there o Clears old new pool pool_after before after t = same_there old.driv
 turn_there o Ended old new pool pool_after before after t = same_there old.drives new.drives (ap (λ (a : At). a.drives) t.0)
 
 -- what a turn asks for is there for the next one
-pub ready_again : (o : Ordered) (old new : At) (pool pool_after : PoolState) (before after : World) → CanTurn o old pool before → Acted o old.phase old new pool pool_after before after → Went (IsOfRun o old.drives) AreAny before after → KeepsRunPool old.phase new.phase pool pool_after
+pub ready_again : (o : Ordered) (old new : At) (pool pool_after : PoolState) (before after : World) → CanTurn o old pool before → Acted o old.phase old new pool pool_after before after → after.attached ≡ before.attached → KeepsRunPool old.phase new.phase pool pool_after
     → CanTurn o new pool_after after
-ready_again o old new pool pool_after before after ready acted went keep = record {
-  source = subst (λ (a : Attached). o.source < a.sources) (sym went.attached) ready.source;
-  drives = λ d live. subst (λ (a : Attached). d < a.drives) (sym went.attached) (ready.drives d (turn_there o old.phase old new pool pool_after before after acted d live));
+ready_again o old new pool pool_after before after ready acted attached keep = record {
+  source = subst (λ (a : Attached). o.source < a.sources) (sym attached) ready.source;
+  drives = λ d live. subst (λ (a : Attached). d < a.drives) (sym attached) (ready.drives d (turn_there o old.phase old new pool pool_after before after acted d live));
   owns = keep.owns;
   free = let sum = keep.sum in let free = ready.free in omega (arith, sum, free);
 }

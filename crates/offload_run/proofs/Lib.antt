@@ -2,7 +2,6 @@ pub mod Places
 pub mod Acting
 pub mod Slots
 pub mod Nearing
-pub mod Calling
 pub mod Counting
 pub mod Starting
 pub mod Lasting

@@ -1,6 +1,5 @@
 -- A run, as what is known of it between two turns: docs/MODEL.md, "Runs by turns".
 use Rattle.std.specs.Prelude.{◌≡◌, ◌≤◌, ℕ, Bool, List, [], length, map, option_map, slice_index_or, vec_capacity}
-use Rattle.bay_core.specs.declared.event.Event.{Event}
 use Rattle.bay_core.specs.World.{World}
 use Rattle.copy_plan.specs.Plan.{PlanValue}
 use Rattle.drive_journal.specs.declared.order.DriveStart.{DriveStart}
@@ -13,7 +12,7 @@ use Rattle.run_state.specs.declared.phase.Phase.{Phase}
 use Rattle.run_state.specs.declared.phase.Phase.TheVariants.{Ended}
 use Rattle.run_state.specs.Acts.{new_journal, Says, Goes}
 use Rattle.run_state.specs.Rules.{left_at}
-use Rattle.run_state.specs.State.{Ordered, DriveAt, Gone, Fresh, Begun, Found, Drives, At, at_of, files_of, drive_at}
+use Rattle.run_state.specs.State.{Ordered, DriveAt, Gone, Fresh, Begun, Found, Drives, At, at_of, files_of}
 use Rattle.offload_run.specs.declared.offload.Offload.{Offload}
 
 -- what a run is to do, but for its drives
@@ -60,10 +59,6 @@ pub record SaysOn (line : List ℕ) (next : Phase) (new : At) (before after : Wo
   pub said : Bool
   pub was_said : Says line said before after
   pub goes : Goes said next new
-
--- any calls
-abbrev pub AreAny : List Event → Type 0
-AreAny L = Unit {0}
 
 -- the records that a drive begins with are at most so many
 abbrev pub HasAtMost : ℕ → DriveStart → Type 0

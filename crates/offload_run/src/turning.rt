@@ -1,15 +1,17 @@
 // The turns of a run.
-ghost use Rattle.std.specs.Prelude.{◌≡◌, ◌≢◌, ◌<◌, length};
+ghost use Rattle.std.specs.Prelude.{◌≡◌, ◌≢◌, ◌<◌, ◌≤◌, length};
 ghost use Rattle.bay_core.specs.Went.{Went};
-ghost use Rattle.run_state.specs.Calls.{IsOfRun};
+ghost use Rattle.run_state.specs.Calls.{IsOfRun, AreTurnCalls};
 ghost use Rattle.run_state.specs.Rules.{Answers, CanTurn, IsNearer, IsRun, KeepsRunPool};
 ghost use Rattle.run_state.specs.Turn.{Turned};
-ghost use Rattle.offload_run.specs.Offload.{ordered_of, drives_of, stands_at, turns_left_of, AreAny, IsStocked};
+ghost use Rattle.offload_run.specs.Offload.{ordered_of, drives_of, stands_at, turns_left_of, IsStocked};
 
 use crate::Offload;
 use bay_core::Bay;
 use block_pool::Pool;
-use run_state::{Phase, RunTurn, turns_keep_the_rules};
+use run_state::{
+    Phase, RunTurn, a_turn_calls_its_own, a_turn_is_left_until_the_end, turns_keep_the_rules,
+};
 
 impl Offload {
     /// One turn: one act on one drive with its line, one turn of a file's copy, or the start or the end of a file or of the
@@ -24,17 +26,21 @@ impl Offload {
         ensures ready { CanTurn (ordered_of self.new) (stands_at self.new) pool.new (B.world bay.new) }
         ensures stocked { IsStocked self.new }
         ensures pool { KeepsRunPool (stands_at self.old).phase (stands_at self.new).phase pool.old pool.new }
-        // A turn after which the run goes on leaves fewer turns, and after the last one none is left.
+        // A turn after which the run goes on leaves fewer turns, one at least; after the last one none is left.
         ensures nearer { IsNearer result (turns_left_of self.old) (turns_left_of self.new) }
+        ensures left { result ≡ RunTurn.Going → 1 ≤ turns_left_of self.new }
         ensures answers { Answers result (stands_at self.new).phase }
         // After the end nothing is called and nothing is changed.
         ensures idle { (stands_at self.old).phase ≡ Phase.Ended → (stands_at self.new ≡ stands_at self.old) × (pool.new ≡ pool.old) × (B.world bay.new ≡ B.world bay.old) }
-        // No other device is called, and nothing is attached.
-        ensures alone { Went (IsOfRun (ordered_of self.old) (drives_of self.old)) AreAny (B.world bay.old) (B.world bay.new) }
+        // No other device is called, nothing is attached, no other file of a card is read, and no line is said about a drive that
+        // is gone or sealed.
+        ensures alone { Went (IsOfRun (ordered_of self.old) (drives_of self.old)) (AreTurnCalls (ordered_of self.old) (drives_of self.old)) (B.world bay.old) (B.world bay.new) }
         // What was done, by what was to be done.
         ensures turned { Turned (ordered_of self.old) (stands_at self.old) (stands_at self.new) pool.old pool.new (B.world bay.old) (B.world bay.new) }
     {
         turns_keep_the_rules();
+        a_turn_calls_its_own();
+        a_turn_is_left_until_the_end();
         self.act(bay, pool);
         self.answer()
     }
