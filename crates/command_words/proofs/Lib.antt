@@ -1,0 +1,4 @@
+mod ListWords
+mod FolderWords
+mod ListRows
+mod OffloadRow
