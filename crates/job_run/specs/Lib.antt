@@ -1,0 +1,4 @@
+pub mod Asked
+pub mod Attached
+pub mod Ending
+pub mod Turning

@@ -1,0 +1,3 @@
+pub mod Attaching
+pub mod Ends
+pub mod Story
