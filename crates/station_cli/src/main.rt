@@ -1,15 +1,12 @@
 //! The station's program.
 #![tactic(auto)]
 
-mod printing;
-mod run;
-#[cfg(test)]
-mod tests;
 mod words;
 
-use crate::run::{say_memory, station};
-use crate::words::{WordList, program_words};
+use crate::words::program_words;
 use bay_host::HostBay;
+use last_lines::say_memory;
+use station_run::station;
 use std::process::ExitCode;
 
 fn main(rt: HostRuntime) -> ExitCode {

@@ -1,167 +1,7 @@
-//! The words of a command line.
-ghost use Rattle.std.specs.Prelude.{◌≡◌, ◌≢◌, ◌<◌, ◌++◌, [], ◌∷◌, ℕ, List, length, slice_index_or, OnOk, OnErr, IfOk, MatchResult, Some, None, true, false};
-ghost use Rattle.path_text.specs.declared.path.PathError.TheVariants.{Memory as NoMemory};
-ghost use Rattle.station_cli.specs.declared.words.WordsError.TheVariants.{Words};
-ghost use Rattle.station_cli.specs.Words.{is_list_word, named, command_of};
-
-use path_text::{PathError, PathText, is_control};
+// The words of the program, as the system hands them over.
+use command_words::WordList;
 use std::alloc::{AllocError, Global};
 use std::env::{Env, FillError};
-use std::marker::Model;
-use thiserror::Error;
-
-// One word, seen as its bytes.
-#[derive(Drop)]
-struct Word {
-    text: String,
-}
-
-impl Model for Word {
-    ghost use Rattle.std.specs.Prelude.{List, ℕ, string_bytes};
-
-    ghost Value = { List ℕ };
-
-    ghost view = { λ a. string_bytes a.text };
-}
-
-impl Word {
-    fn of(alloc: Global, text: &str) -> Result<Word, AllocError>
-        ensures { IfOk result (λ word. word ≡ text.now) }
-    {
-        Ok(Word {
-            text: text.to_owned(alloc)?,
-        })
-    }
-
-    fn as_str(&self) -> &str
-        ensures { result.now ≡ self.now }
-    {
-        &self.text
-    }
-}
-
-/// The words of a command line behind the program's name, seen as the list of their bytes.
-#[derive(Drop)]
-pub struct WordList {
-    alloc: Global,
-    words: Vec<Word>,
-}
-
-impl Model for WordList {
-    ghost use Rattle.std.specs.Prelude.{List, ℕ};
-
-    ghost Value = { List (List ℕ) };
-
-    ghost view = { λ a. a.words.items };
-}
-
-impl WordList {
-    /// No words. Takes no memory.
-    pub fn new(alloc: Global) -> WordList
-        ensures { result ≡ [] }
-    {
-        WordList {
-            alloc,
-            words: Vec::new(alloc),
-        }
-    }
-
-    /// Adds a copy of a word at the end.
-    pub fn push(&mut self, word: &str) -> Result<(), AllocError>
-        ensures ok { OnOk result (self.new ≡ self.old ++ word.now ∷ []) }
-        ensures err { OnErr result (self.new ≡ self.old) }
-    {
-        let word = Word::of(self.alloc, word)?;
-        self.words.push(word)?;
-        Ok(())
-    }
-
-    pub fn count(&self) -> usize
-        ensures { result ≡ length self.now }
-    {
-        self.words.len()
-    }
-
-    pub fn word(&self, i: usize) -> &str
-        requires { i < length self.now }
-        ensures { (d : List ℕ) → result.now ≡ slice_index_or self.now i d }
-    {
-        self.words[i].as_str()
-    }
-}
-
-/// What the words ask for. The folder words are taken from the words, at the places of their row.
-#[derive(Debug, Drop)]
-pub enum Command {
-    /// `verify LIST DRIVE`: the drive's files against the list at a path of one part on it.
-    Verify { list: PathText },
-    /// `print LIST DRIVE`: the table of the list at a path of one part on the drive.
-    Print { list: PathText },
-}
-
-/// Why words are no command.
-#[derive(Clone, Copy, Debug, PartialEq, Eq, Error)]
-pub enum WordsError {
-    /// The words fit no row (docs/FORMATS.md, "Words").
-    #[error("the words fit no command")]
-    Words,
-    #[error("out of memory")]
-    Memory,
-}
-
-// Why a word that is no path fits no row.
-fn words_error(error: PathError) -> WordsError
-    ensures { result ≡ Words → error ≢ NoMemory }
-{
-    match error {
-        PathError::Memory => WordsError::Memory,
-        _ => WordsError::Words,
-    }
-}
-
-// The path of a list that a word is.
-fn list_word(alloc: Global, word: &str) -> Result<PathText, WordsError>
-    ensures { MatchResult result (λ list. (list ≡ word.now) × (is_list_word word.now ≡ true)) (λ e. e ≡ Words → is_list_word word.now ≡ false) }
-{
-    let list = match PathText::read(alloc, word) {
-        Ok(list) => list,
-        Err(e) => return Err(words_error(e)),
-    };
-    if is_control(&list) || word.as_bytes().contains(&b'/') {
-        return Err(WordsError::Words);
-    }
-    Ok(list)
-}
-
-// What a first word does with a list; None for a word that is no command.
-fn named(name: &str, list: PathText) -> Option<Command>
-    ensures { result ≡ named name.now list }
-{
-    if name == "verify" {
-        Some(Command::Verify { list })
-    } else if name == "print" {
-        Some(Command::Print { list })
-    } else {
-        None
-    }
-}
-
-/// The command that words are: `Words` exactly where they fit no row.
-pub fn read_words(alloc: Global, words: &WordList) -> Result<Command, WordsError>
-    ensures { MatchResult result (λ command. command_of words.now ≡ Some command) (λ e. e ≡ Words → command_of words.now ≡ None) }
-{
-    if words.count() != 3 || words.word(2).is_empty() {
-        return Err(WordsError::Words);
-    }
-    let list = match list_word(alloc, words.word(1)) {
-        Ok(list) => list,
-        Err(e) => return Err(e),
-    };
-    match named(words.word(0), list) {
-        Some(command) => Ok(command),
-        None => Err(WordsError::Words),
-    }
-}
 
 /// The bytes of the longest word that the system hands over.
 const LONGEST_WORD: usize = 131_072;
@@ -178,4 +18,58 @@ pub fn program_words(env: &impl Env, alloc: Global) -> Result<WordList, AllocErr
         }
     }
     Ok(words)
+}
+
+#[cfg(test)]
+mod tests {
+    use super::*;
+    use std::test::Fail;
+
+    // A system that hands over these words, the program's name first.
+    #[derive(Drop)]
+    struct Handed<'a> {
+        words: &'a [&'a [u8]],
+    }
+
+    impl Env for Handed<'_> {
+        fn arg(&self, i: usize, buf: &mut [u8]) -> Result<usize, FillError> {
+            let Some(word) = self.words.get(i) else {
+                return Err(FillError::NotPresent);
+            };
+            if word.len() > buf.len() {
+                return Err(FillError::TooLong);
+            }
+            buf[..word.len()].copy_from_slice(word);
+            Ok(word.len())
+        }
+
+        fn var(&self, _name: &str, _buf: &mut [u8]) -> Result<usize, FillError> {
+            Err(FillError::NotPresent)
+        }
+
+        fn var_at(&self, _i: usize, _buf: &mut [u8]) -> Result<usize, FillError> {
+            Err(FillError::NotPresent)
+        }
+    }
+
+    #[test]
+    fn the_words_of_the_system_are_taken(rt: HostRuntime) -> Result<(), Fail> {
+        let alloc = rt.alloc();
+        let long = vec![in alloc; b'a'; 131_073]?;
+        let handed = [
+            "station_cli".as_bytes(),
+            "verify".as_bytes(),
+            &[0xff],
+            &long,
+            "D".as_bytes(),
+        ];
+        let words = program_words(&Handed { words: &handed }, alloc)?;
+        assert_eq!(rt; words.count(), 4);
+        for (i, wanted) in ["verify", "", "", "D"].iter().enumerate() {
+            if i < words.count() {
+                assert_eq!(rt; words.word(i), *wanted);
+            }
+        }
+        Ok(())
+    }
 }

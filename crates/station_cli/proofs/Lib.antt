@@ -1,9 +1,0 @@
-pub mod Ends
-pub mod Tables
-pub mod Attached
-pub mod Verified
-pub mod Printed
-pub mod Ran
-pub mod Placed
-pub mod InMemory
-pub mod Rows

@@ -1,9 +1,0 @@
-use Rattle.std.proofs.Common.{◌∙◌}
-use Rattle.station_cli.proofs.Tables.{told_one, untold_one}
-use Rattle.station_cli.proofs.printing.say.Goals as goal
-
-pub returns-in-Ok : goal.returns-in-Ok
-returns-in-Ok g c = told_one _ _ (c.bytes.ensures ∙ c.line_into.ensures.text) c.in-Ok.ensures
-
-pub returns-in-Err : goal.returns-in-Err
-returns-in-Err g c = untold_one _ _ (c.bytes.ensures ∙ c.line_into.ensures.text) c.in-Err.ensures

@@ -1,9 +1,0 @@
-use Rattle.std.proofs.Common.{◌∙◌}
-use Rattle.station_cli.proofs.Ends.{ended_said, ended_unsaid}
-use Rattle.station_cli.proofs.run.end.Goals as goal
-
-pub returns-in-Ok : goal.returns-in-Ok
-returns-in-Ok g c = ended_said _ _ _ _ _ (c.bytes.ensures ∙ c.line_into.ensures.text) c.in-Ok.ensures
-
-pub returns-in-Err : goal.returns-in-Err
-returns-in-Err g c = ended_unsaid _ _ _ _ _ (c.bytes.ensures ∙ c.line_into.ensures.text) c.in-Err.ensures

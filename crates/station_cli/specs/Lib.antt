@@ -1,7 +1,0 @@
-pub mod Words
-pub mod Table
-pub mod Ends
-pub mod Runs
-pub mod Verify
-pub mod Print
-pub mod Station
