@@ -189,7 +189,7 @@ unsaid_end d {old} {mid} {new} halted said =
     record {
       went = went_then (drive_here d (halts d (Some (Drive d)) halted)) (output_here d line);
       untouched = both_untouched (drive_here d (halts_untouched d (Some (Drive d)) halted)) (output_here d (went_such (unsaid_untouched (dropped_fault_text d)) line));
-      unsaid = λ is. rose_since Output (new.faults Output) halted.went (said.cause refl);
+      unsaid = λ is. (rose_still (Drive d) (old.faults (Drive d)) said.went halted.cause, rose_since Output (new.faults Output) halted.went (said.cause refl));
     }
 
 -- memory was wanting

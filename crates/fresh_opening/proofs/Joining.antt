@@ -6,7 +6,7 @@ use Rattle.std.proofs.lemmas.List.{length-map, map-append}
 use Rattle.std.proofs.lemmas.Option.{none-some}
 use Rattle.bay_core.specs.declared.event.Event.{Event}
 use Rattle.bay_core.specs.Looks.{Here, IsUntouched}
-use Rattle.bay_core.specs.Replay.{Device, Output}
+use Rattle.bay_core.specs.Replay.{Device, Drive, Output}
 use Rattle.bay_core.specs.Went.{Went, Then, NoCall}
 use Rattle.bay_core.specs.World.{World}
 use Rattle.bay_core.proofs.Looking.{no_looks, untouched_none}
@@ -143,7 +143,9 @@ module _ (first count : ℕ) (sights : List Sight) {old mid new : World} (so_far
     are = λ place x found. sight_later (first + place) x old ends.untouched (so_far.are place x found);
     reaches = reaches;
     refuses = refuses;
-    unsaid = λ is. rose_since Output (new.faults Output) so_far.went (ends.unsaid is);
+    unsaid = λ is.
+        let rose = ends.unsaid is in
+        (rose_since (Drive (first + length sights)) (new.faults (Drive (first + length sights))) so_far.went rose.0, rose_since Output (new.faults Output) so_far.went rose.1);
   }
 
   fault_end : (at : ℕ) → IsFaulty (first + length sights) at mid new → LooksEnd first count (NotAJournal (first + length sights) at) old new

@@ -45,15 +45,15 @@ EndCalls d NoDrive L = NoCall L
 EndCalls d (Clash list path) L = NoCall L
 EndCalls d (Occupied drive path) L = NoCall L
 
--- the count of the output rose where a line was not said
-abbrev pub IsUnsaid : FreshError → World → World → Type 0
-IsUnsaid e old new = e ≡ OutFailed → Rose (old.faults Output) (new.faults Output)
+-- where the line of drive d was not said, the count of the drive rose, and that of the output
+abbrev pub IsUnsaid : ℕ → FreshError → World → World → Type 0
+IsUnsaid d e old new = e ≡ OutFailed → Rose (old.faults (Drive d)) (new.faults (Drive d)) × Rose (old.faults Output) (new.faults Output)
 
 -- such an end, of drive d and the output alone
 pub record EndsAt (d : ℕ) (e : FreshError) (old new : World) : Type 0 where
   pub went : Went (Here d) (EndCalls d e) old new
   pub untouched : Went (Here d) IsUntouched old new
-  pub unsaid : IsUnsaid e old new
+  pub unsaid : IsUnsaid d e old new
 
 -- drive d has a journal with a fault there
 pub record IsFaulty (d at : ℕ) (old new : World) : Type 0 where
@@ -144,4 +144,4 @@ pub record LooksEnd (first count : ℕ) (e : FreshError) (old new : World) : Typ
   pub are : AreSights first sights old new
   pub reaches : (plan : Option PlanValue) → Reaches count (scene_of first sights plan) e
   pub refuses : (plan : Option PlanValue) → Refuses (scene_of first sights plan) e
-  pub unsaid : IsUnsaid e old new
+  pub unsaid : IsUnsaid (first + length sights) e old new

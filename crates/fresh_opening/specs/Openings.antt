@@ -143,10 +143,10 @@ abbrev pub AsksMoment : Option PlanValue → List Event → Type 0
 AsksMoment None L = NoCall L
 AsksMoment (Some p) L = IsCall (Moment p.started) L
 
--- what is known of an opening by its answer, and by its count of the output where that failed
-abbrev pub IsUnsaidBy : Result Order FreshError → World → World → Type 0
-IsUnsaidBy (Ok order) old new = Unit {0}
-IsUnsaidBy (Err e) old new = IsUnsaid e old new
+-- what is known of the counts where an opening ended so at drive d: where its line was not said, that of the drive and that of the output rose
+abbrev pub IsUnsaidBy : ℕ → Result Order FreshError → World → World → Type 0
+IsUnsaidBy d (Ok order) old new = Unit {0}
+IsUnsaidBy d (Err e) old new = IsUnsaid d e old new
 
 -- An opening with a plan: the drives were looked at one after another, up to an end, and nothing else was called.
 pub record PlanOpens (source first count copies : ℕ) (p : PlanValue) (listed : Option (Vec Listed Global)) (result : Result Order FreshError) (old new : World) : Type 0 where
@@ -157,7 +157,7 @@ pub record PlanOpens (source first count copies : ℕ) (p : PlanValue) (listed :
   pub went : Went (OfLooks first count) (Then (SightsCalls scene.first scene.sights) (EndsWith (scene.first + length scene.sights) result)) old new
   pub sights : AreSights scene.first scene.sights old new
   pub answer : Answers source count copies listed scene result
-  pub unsaid : IsUnsaidBy result old new
+  pub unsaid : IsUnsaidBy (scene.first + length scene.sights) result old new
 
 -- the devices that an opening to so many drives may call behind its card: those drives, the output and the clock
 abbrev pub OfDrives : ℕ → Device → Type 0
@@ -187,7 +187,7 @@ pub record FreshLooks (source count copies : ℕ) (a : Asked) (result : Result O
   pub went : Went (OfDrives count) (Then (SightsCalls scene.first scene.sights) (Then (AsksMoment scene.plan) (EndsWith (scene.first + length scene.sights) result))) listed new
   pub sights : AreSights scene.first scene.sights listed new
   pub answer : Answers source count copies None scene result
-  pub unsaid : IsUnsaidBy result listed new
+  pub unsaid : IsUnsaidBy (scene.first + length scene.sights) result listed new
 
 -- such an opening, or one that ended with its card, which has no inventory
 abbrev pub FreshOpens : ℕ → ℕ → ℕ → Asked → Result Order FreshError → World → World → Type 0

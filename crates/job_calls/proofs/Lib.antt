@@ -1,0 +1,12 @@
+pub mod Told
+pub mod Follows
+pub mod Attaching
+pub mod Opening
+pub mod Ending
+pub mod Opened
+pub mod Turning
+pub mod Parts
+pub mod Owning
+pub mod Stopping
+pub mod Given
+pub mod Failing

@@ -1,0 +1,14 @@
+pub mod Told
+pub mod Lines
+pub mod Attached
+pub mod Opened
+pub mod Opening
+pub mod Records
+pub mod Written
+pub mod Planned
+pub mod Losing
+pub mod Parts
+pub mod Dropping
+pub mod Quiet
+pub mod Counting
+pub mod Completing

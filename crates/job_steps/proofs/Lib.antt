@@ -1,0 +1,17 @@
+pub mod Plain
+pub mod Lists
+pub mod Quiet
+pub mod Told
+pub mod Begun
+pub mod Attached
+pub mod Opened
+pub mod Lasts
+pub mod Planned
+pub mod Lower
+pub mod Stopped
+pub mod Parts
+pub mod Drives
+pub mod Ways
+pub mod Prefixes
+pub mod Called
+pub mod Clears
