@@ -11,8 +11,6 @@ mod mem_bay;
 mod mem_map;
 mod mem_world;
 mod places;
-#[cfg(test)]
-mod tests;
 
 pub use mem_bay::MemBay;
 pub use mem_map::MemMap;

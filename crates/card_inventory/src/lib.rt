@@ -5,8 +5,6 @@ mod card;
 mod error;
 mod laws;
 mod listing;
-#[cfg(test)]
-mod tests;
 
 pub use card::inventory;
 pub use error::InventoryError;

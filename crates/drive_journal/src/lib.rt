@@ -5,8 +5,6 @@
 mod gates;
 mod journal;
 mod laws;
-#[cfg(test)]
-mod look_tests;
 mod looking;
 mod order;
 mod publishing;

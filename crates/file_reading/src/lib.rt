@@ -3,8 +3,6 @@
 
 mod listed;
 mod piece;
-#[cfg(test)]
-mod tests;
 mod whole;
 
 pub use listed::{Content, ListReadError, ListedFile, list_and_read, listed_size};

@@ -6,8 +6,6 @@ mod aloud;
 mod copying;
 mod error;
 mod first;
-#[cfg(test)]
-mod tests;
 
 pub use aloud::{begin_aloud, record_aloud};
 pub use copying::copy_file;

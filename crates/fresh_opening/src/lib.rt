@@ -7,8 +7,6 @@ mod looking;
 mod opening;
 mod planning;
 mod starting;
-#[cfg(test)]
-mod tests;
 
 pub use error::FreshError;
 pub use laws::one_refusal;

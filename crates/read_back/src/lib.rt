@@ -3,7 +3,5 @@
 
 mod back;
 mod pieces;
-#[cfg(test)]
-mod tests;
 
 pub use back::{ReadBackError, read_back};

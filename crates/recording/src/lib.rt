@@ -11,10 +11,6 @@ use offload_law::steps_are_safe;
 
 mod beginning;
 mod filing;
-#[cfg(test)]
-mod tests;
-#[cfg(test)]
-mod worked_tests;
 
 pub use beginning::{begin_on, rejoin_on};
 pub use filing::record_file;

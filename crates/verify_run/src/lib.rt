@@ -7,8 +7,6 @@ mod kinds;
 mod loading;
 mod reading;
 mod saying;
-#[cfg(test)]
-mod tests;
 mod verdict;
 mod verifying;
 

@@ -1,8 +1,8 @@
 ghost use Rattle.std.specs.Prelude.{◌≡◌, ◌<◌, IfOk};
 ghost use Rattle.bay_mem.specs.State.{world_of};
 
-use crate::{MemBay, MemMap};
 use bay_core::{Bay, DriveGot, Event, Failed, FileInfo};
+use bay_mem::{MemBay, MemMap};
 use std::alloc::{AllocError, Global};
 use std::process::Abort;
 use std::test::Fail;

@@ -1,10 +1,10 @@
 ghost use Rattle.std.specs.Prelude.{◌<◌, IfOk};
 ghost use Rattle.bay_mem.specs.State.{world_of};
 
-use super::*;
 use bay_core::Bay;
 use bay_mem::{MemBay, MemMap};
 use digest_set::unhex_into;
+use drive_journal::{LookError, State, look};
 use std::alloc::Global;
 use std::test::Fail;
 

@@ -1,11 +1,11 @@
 ghost use Rattle.std.specs.Prelude.{◌<◌, IfOk};
 ghost use Rattle.bay_mem.specs.State.{world_of};
 
-use super::*;
 use bay_core::Bay;
 use bay_mem::{MemBay, MemMap};
 use block_pool::Pool;
 use digest_set::{Triple, unhex_into};
+use read_back::{ReadBackError, read_back};
 use std::alloc::Global;
 use std::process::Abort;
 use std::test::Fail;

@@ -1,13 +1,13 @@
 ghost use Rattle.std.specs.Prelude.{◌≡◌, ◌<◌, IfOk};
 ghost use Rattle.bay_mem.specs.State.{world_of};
 
-use super::*;
 use bay_core::{Bay, DriveGot, Event};
 use bay_mem::{MemBay, MemMap};
 use mhl_reader::ReadError;
 use path_text::PathText;
 use std::alloc::{AllocError, Global};
 use std::test::Fail;
+use verify_run::{LoadError, Outcome, Standing, Verdict, VerifyError, load_list, verify};
 
 // A list with one entry: a.mov, the bytes `abc`. The digest is of RFC 1321.
 const LIST: &str = "<?xml version=\"1.0\" encoding=\"UTF-8\"?>

@@ -2,11 +2,11 @@
 ghost use Rattle.std.specs.Prelude.{◌<◌, ◌≤◌, IfOk};
 ghost use Rattle.bay_mem.specs.State.{world_of};
 
-use crate::{FreshError, open_fresh, open_plan};
 use bay_core::{Bay, Event};
 use bay_mem::{MemBay, MemMap};
 use copy_plan::{Inventory, Plan, PlannedFile};
 use drive_journal::{DriveStart, Order};
+use fresh_opening::{FreshError, open_fresh, open_plan};
 use path_text::{Kinds, Label, Moment, PathText};
 use std::alloc::Global;
 use std::test::Fail;

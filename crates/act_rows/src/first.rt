@@ -5,11 +5,11 @@ ghost use Rattle.copy_plan.specs.Fields.{plan_code};
 ghost use Rattle.first_file.specs.declared.error.FirstFileError.TheVariants.{Attach};
 ghost use Rattle.first_file.specs.Causes.{AttachesOne};
 
-use crate::{FirstFileError, offload_first_file};
 use bay_core::{Bay, Event};
 use bay_mem::{MemBay, MemMap};
 use block_pool::Pool;
 use copy_plan::{Inventory, Plan, PlannedFile, encode};
+use first_file::{FirstFileError, offload_first_file};
 use path_text::{Kinds, Label, Moment, PathText, Scratch};
 use std::alloc::Global;
 use std::process::Abort;

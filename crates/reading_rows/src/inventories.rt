@@ -2,9 +2,9 @@
 ghost use Rattle.std.specs.Prelude.{◌<◌, IfOk};
 ghost use Rattle.bay_mem.specs.State.{world_of};
 
-use super::*;
 use bay_core::{Bay, FileInfo, NameText};
 use bay_mem::{MemBay, MemMap};
+use card_inventory::{InventoryError, inventory, inventory_of};
 use copy_plan::Inventory;
 use path_text::PathError;
 use std::alloc::{AllocError, Global};

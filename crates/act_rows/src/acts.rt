@@ -2,7 +2,6 @@
 ghost use Rattle.std.specs.Prelude.{◌<◌, IfOk};
 ghost use Rattle.bay_mem.specs.State.{world_of};
 
-use crate::{record_file, rejoin_on};
 use bay_core::Bay;
 use bay_mem::{MemBay, MemMap};
 use block_pool::Pool;
@@ -10,6 +9,7 @@ use digest_set::{Fan, triple_of};
 use drive_journal::{Gate, Rec};
 use path_text::{Moment, PathText, is_control};
 use read_back::ReadBackError;
+use recording::{record_file, rejoin_on};
 use std::alloc::Global;
 use std::process::Abort;
 use std::test::Fail;

@@ -1,9 +1,9 @@
 ghost use Rattle.std.specs.Prelude.{◌<◌, ◌-◌, ◌^◌, ◌≤◌, IfOk};
 ghost use Rattle.bay_mem.specs.State.{world_of};
 
-use super::*;
 use bay_core::{Bay, DriveGot, Event};
 use bay_mem::{MemBay, MemMap};
+use file_reading::{Content, ListReadError, ReadWholeError, list_and_read, read_whole};
 use std::alloc::{AllocError, Global};
 use std::test::Fail;
 

@@ -3,13 +3,13 @@ ghost use Rattle.std.specs.Prelude.{◌≡◌, ◌<◌, ◌≤◌, false, IfOk, 
 ghost use Rattle.bay_mem.specs.State.{world_of};
 ghost use Rattle.path_text.specs.Path.{is_control_path};
 
-use crate::{begin_on, record_file};
 use bay_core::{Bay, Event};
 use bay_mem::{MemBay, MemMap};
 use block_pool::Pool;
 use digest_set::{Fan, triple_of};
 use drive_journal::{Gate, Rec, publish};
 use path_text::{Moment, PathText, is_control};
+use recording::{begin_on, record_file};
 use std::alloc::Global;
 use std::process::Abort;
 use std::test::Fail;

@@ -1,5 +1,5 @@
 use Rattle.std.proofs.Common.{◌≤◌}
-use Rattle.recording.proofs.worked_tests.announced.Given as goal
+use Rattle.act_rows.proofs.worked.announced.Given as goal
 
 abbrev pub invariant-loop-event : goal.invariant-loop-event
 invariant-loop-event l = l.steps ≤ 3
