@@ -52,6 +52,7 @@ looks_told count copies a came old new l =
     tells_such
     (λ L both. record {
       on = both.0;
+      reaches = λ e is. subst (λ (c : Result Order FreshError). Answers 0 count copies None l.scene c) is l.answer;
       calls =
           subst (λ (first : ℕ). Then (SightsCalls first l.scene.sights) (Then (AsksMoment l.scene.plan) (EndsWith (length l.scene.sights) came)) L) l.from
           (subst (λ (last : ℕ). Then (SightsCalls l.scene.first l.scene.sights) (Then (AsksMoment l.scene.plan) (EndsWith last came)) L) (let from = l.from in omega (arith, from)) both.1);
