@@ -1,0 +1,11 @@
+pub mod Differing
+pub mod Counting
+pub mod Looks
+pub mod Planned
+pub mod Words
+pub mod Lasts
+pub mod Lengths
+pub mod Sealing
+pub mod Gives
+pub mod Ran
+pub mod Whole
