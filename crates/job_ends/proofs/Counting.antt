@@ -1,29 +1,25 @@
 -- What the counts and the numbers of devices show of the end of a run.
-use Rattle.std.proofs.Common.{◌≡◌, ◌≢◌, ◌⊎◌, inl, inr, ℕ, zero, suc, ◌+◌, ◌<◌, ◌≤◌, Bool, true, false, List, [], ◌∷◌, length, take, refl, sym, ap, ◌∙◌, subst, arith, length-take}
-use Rattle.std.specs.Prelude.{Some, Result, Ok, Err}
-use Rattle.std.specs.List.{slice_get}
+use Rattle.std.proofs.Common.{◌≡◌, ◌≢◌, inl, inr, ℕ, suc, ◌+◌, ◌<◌, ◌≤◌, List, [], ◌∷◌, length, take, refl, sym, ap, ◌∙◌, subst, arith, length-take}
+use Rattle.std.specs.Prelude.{Result, Ok, Err}
 use Rattle.std.proofs.lemmas.Option.{slice_get_within}
 use Rattle.bay_core.specs.declared.failed.Failed.{Failed as DeviceFailed}
 use Rattle.bay_core.specs.Attach.{Attaches, CardAttaches}
 use Rattle.bay_core.specs.Replay.{Device, Source, Drive, Attaching, Output, Clock, Picker}
-use Rattle.bay_core.specs.Went.{Only, Went}
+use Rattle.bay_core.specs.Went.{Only}
 use Rattle.bay_core.specs.World.{World, Attached, Rose}
 use Rattle.card_inventory.specs.declared.error.InventoryError.{InventoryError}
 use Rattle.card_inventory.specs.declared.error.InventoryError.TheVariants.{SourceFailed, EmptyCard, TooManyFiles, BadPath, BadDate, TooManyBytes, Control, TooBig, Clash as FilesClash, Memory as CardMemory}
-use Rattle.copy_plan.specs.Plan.{PlanValue}
 use Rattle.drive_journal.specs.declared.order.Order.{Order}
 use Rattle.fresh_opening.specs.declared.error.FreshError.{FreshError}
 use Rattle.fresh_opening.specs.declared.error.FreshError.TheVariants.{Inventory, NotAJournal, AlreadyBegun, NoDrive, Clash, Occupied, OutFailed as LineFailed, Memory}
 use Rattle.run_state.specs.declared.outcome.Outcome.{Outcome}
 use Rattle.run_state.specs.declared.outcome.Outcome.TheVariants.{Going, Finished, NoDrive as NoneLeft, SourceFailed as CardLost, Changed, Altered, OutFailed as LineLost}
-use Rattle.run_state.specs.Calls.{IsOfRun}
 use Rattle.run_state.specs.Rules.{IsRun, IsStart}
 use Rattle.run_state.specs.Runs.{Point, Alone, Runs}
-use Rattle.run_state.specs.State.{Ordered, At}
+use Rattle.run_state.specs.State.{Ordered}
 use Rattle.run_steps.specs.Parts.{PartsReady}
 use Rattle.run_ends.specs.Ends.{EndsRightly}
 use Rattle.run_ends.specs.Known.{KnowsReadsOnward}
-use Rattle.run_calls.specs.Own.{NoListing}
 use Rattle.offload_run.specs.Offload.{ordered_of, stands_at}
 use Rattle.command_words.specs.Jobs.{Job}
 use Rattle.last_lines.specs.Ends.{End, EndStatus, Ended}
@@ -37,7 +33,7 @@ use Rattle.job_calls.proofs.Owning.{opened_not, turned_not, attached_end}
 use Rattle.job_calls.proofs.Parts.{CallsOwn, turns_went}
 use Rattle.job_calls.proofs.Stopping.{ReadyWithout}
 use Rattle.job_calls.proofs.Turning.{of_sights, keep_no_parts}
-use Rattle.job_ends.specs.Counts.{Rises, ShowsCause, AreAttached, EndCounts}
+use Rattle.job_ends.specs.Counts.{ShowsCause, AreAttached, EndCounts}
 use Rattle.job_ends.proofs.Differing.{Differs, differs_runs}
 
 -- ---- counts do not fall

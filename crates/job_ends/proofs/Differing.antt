@@ -1,5 +1,5 @@
 -- A run that ended by the length of a file names two that differ, over bays that tell no calls too.
-use Rattle.std.proofs.Common.{◌≡◌, ◌≢◌, ℕ, Bool, true, false, refl, sym, ap, ◌∙◌, subst}
+use Rattle.std.proofs.Common.{◌≡◌, ◌≢◌, ℕ, Bool, true, false, sym, ◌∙◌, subst}
 use Rattle.std.specs.Prelude.{nat_eq, if◌then◌else◌}
 use Rattle.fan_copier.specs.declared.copy.FileCopy.{FileCopy}
 use Rattle.fan_copier.specs.declared.turn.Turn.{Turn}
@@ -17,7 +17,7 @@ use Rattle.run_state.specs.State.{Ordered, At, count_sealed}
 use Rattle.run_ends.specs.Known.{KnowsReads, KnowsReadsOnward}
 use Rattle.run_ends.proofs.Ending.{other_size}
 use Rattle.run_ends.proofs.Turns.{Came, Passed, Told, Lost, Broke, Closed, Rested, Why}
-use Rattle.run_ends.proofs.Way.{Way, way, came_at}
+use Rattle.run_ends.proofs.Way.{way, came_at}
 
 -- two lengths of a file that ended a run differ
 abbrev pub Differs : Outcome → Type 0
@@ -28,7 +28,7 @@ module _ (o : Ordered) (a : Point) where
   copy_differs : (m c : Point) (i : ℕ) (copy : FileCopy) → KnowsReads o a i copy m.pool m.world → (act : CopyActed o i copy m.at.drives c.at m.pool c.pool m.world c.world) → (listed read : ℕ) → act.came ≡ CardChanged listed read → listed ≢ read
   copy_differs m c i copy knows act listed read at =
       let turn : CopyTurned act.file.path copy act.next act.between m.world act.mid knows.bytes (CardChanged listed read) =
-          subst (λ (r : Turn). CopyTurned act.file.path copy act.next act.between m.world act.mid knows.bytes r) at (act.turned knows.bytes knows.copying) in
+      subst (λ (r : Turn). CopyTurned act.file.path copy act.next act.between m.world act.mid knows.bytes r) at (act.turned knows.bytes knows.copying) in
       let both = other_size (size_of copy) (standing copy) (standing act.next) (doing (standing copy) turn.pick) listed read turn.stands in
       λ same. both.1 (sym same ∙ both.0)
 

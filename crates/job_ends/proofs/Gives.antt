@@ -1,5 +1,5 @@
 -- What is so of a run that ended so.
-use Rattle.std.proofs.Common.{◌≡◌, ◌≢◌, ◌⊎◌, inl, inr, ℕ, zero, suc, ◌+◌, ◌<◌, ◌≤◌, Bool, true, false, List, [], ◌∷◌, ◌++◌, length, map, take, refl, sym, ap, ◌∙◌, subst, arith, append_assoc, append-nil}
+use Rattle.std.proofs.Common.{◌≡◌, ◌≢◌, ◌⊎◌, inl, inr, ℕ, zero, suc, ◌<◌, ◌≤◌, Bool, false, List, [], ◌∷◌, ◌++◌, length, map, take, refl, sym, ap, ◌∙◌, subst, arith}
 use Rattle.std.specs.Prelude.{Option, Some, None, Result, Ok, Err, Contains, if◌then◌else◌}
 use Rattle.std.specs.List.{slice_get, AllByRecursion}
 use Rattle.std.proofs.lemmas.Bool.{cases_Bool}
@@ -7,7 +7,7 @@ use Rattle.std.proofs.lemmas.List.Elements.{Contains-append_left, Contains-appen
 use Rattle.bay_core.specs.declared.event.Event.{Event}
 use Rattle.bay_core.specs.declared.event.Event.TheVariants.{AttachFailed, Write, Sync, Rename, Remove, Say}
 use Rattle.bay_core.specs.Looks.{IsUntouched, is_effect}
-use Rattle.bay_core.specs.Replay.{Device, Output, device_of}
+use Rattle.bay_core.specs.Replay.{Output, device_of}
 use Rattle.bay_core.specs.Went.{AllOn, Only, MaySee}
 use Rattle.bay_core.specs.World.{World}
 use Rattle.bay_core.proofs.Looking.{untouched_append}
@@ -25,22 +25,21 @@ use Rattle.report_text.specs.Run.{clear_text}
 use Rattle.run_state.specs.Acts.{is_clear}
 use Rattle.run_state.specs.State.{files_of}
 use Rattle.run_lines.specs.Lines.{lines_in, clear_lines}
-use Rattle.run_lines.specs.Words.{Mark, Lost, Fault, Word, word_text, begun_marks, IsSoFar, IsWhole, sealed_in}
+use Rattle.run_lines.specs.Words.{Lost, Fault, word_text, begun_marks, IsSoFar, IsWhole, sealed_in}
 use Rattle.run_lines.proofs.Clearing.{clear_means}
 use Rattle.run_lines.proofs.Counts.{contains_map}
 use Rattle.run_lines.proofs.Marks.{cut_first}
 use Rattle.run_lines.proofs.Saying.{lines_append, line_said}
-use Rattle.last_lines.specs.Ends.{End, EndCalls}
-use Rattle.job_story.specs.Ends.{JobEnd, Sealed, Dropped, Refused, CardUnattached, DriveUnattached, CardFailed, CardChanged, OutFailed, NoMemory, refusal_lines, last_of, opening_end}
+use Rattle.job_story.specs.Ends.{JobEnd, Dropped, Refused, CardUnattached, DriveUnattached, CardFailed, OutFailed, NoMemory, refusal_lines, last_of, opening_end}
 use Rattle.job_story.specs.Run.{Run, run_with}
 use Rattle.job_calls.specs.Calls.{job_attaches, drive_attaches, unattached_end, StopsAttaching}
 use Rattle.job_calls.proofs.Ending.{Lasts, lasts_of}
 use Rattle.job_calls.proofs.Parts.{EndsBy}
 use Rattle.job_ends.specs.Counts.{EndCounts}
-use Rattle.job_ends.specs.Ends.{AllSealed, IsDropped, SomeDropped, SaysEnd, EndGives}
-use Rattle.job_ends.specs.Says.{AreJobWords, SaysAll, SaysSome}
-use Rattle.job_ends.proofs.Lasts.{last_said, quiet_end, rises_by, says_end}
-use Rattle.job_ends.proofs.Looks.{word, lost_words, sight_marks, lost_has, lost_sealed, OpeningSays, opening_says}
+use Rattle.job_ends.specs.Ends.{EndGives}
+use Rattle.job_ends.specs.Says.{SaysAll, SaysSome}
+use Rattle.job_ends.proofs.Lasts.{quiet_end, says_end}
+use Rattle.job_ends.proofs.Looks.{word, lost_words, sight_marks, lost_has, lost_sealed, OpeningSays}
 use Rattle.job_ends.proofs.Words.{losses_are}
 
 -- a plan of nothing, by which no more than losses are said
@@ -229,9 +228,9 @@ module _ (job : Job) (result : ℕ) (old new : World) (since : List Event) where
             lines = closed_lines ∙ ap (λ (l : List (List ℕ)). map (word_text no_plan) (lost_words 0 says.sights) ++ l) (q.0 ∙ sym none_clear);
           } in
           let said : IsSaid opening (dropped_fault_text 0) =
-              line_said opening (dropped_fault_text 0)
-              (subst (λ (l : List (List ℕ)). Contains l (dropped_fault_text 0)) (sym (says.lines no_plan))
-              (contains_map (word_text no_plan) (lost_words 0 says.sights) (word 0 (Lost Fault)) (lost_has 0 0 says.sights (lost_each 0 (omega (arith, some)))))) in
+          line_said opening (dropped_fault_text 0)
+          (subst (λ (l : List (List ℕ)). Contains l (dropped_fault_text 0)) (sym (says.lines no_plan))
+          (contains_map (word_text no_plan) (lost_words 0 says.sights) (word 0 (Lost Fault)) (lost_has 0 0 says.sights (lost_each 0 (omega (arith, some)))))) in
           let whole : IsSaid since (dropped_fault_text 0) = subst (λ (E : List Event). IsSaid E (dropped_fault_text 0)) (sym is) (said_behind (job_attaches job) (opening ++ last) (dropped_fault_text 0) (said_before opening last (dropped_fault_text 0) said)) in
           (all, (0, omega (arith, some), (Fault, whole)), q.1)
 

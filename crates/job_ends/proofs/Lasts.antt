@@ -8,7 +8,6 @@ use Rattle.bay_core.specs.declared.event.Event.TheVariants.{Say}
 use Rattle.bay_core.specs.Looks.{says}
 use Rattle.bay_core.specs.Replay.{Output}
 use Rattle.bay_core.specs.Went.{MaySee}
-use Rattle.bay_core.specs.World.{World}
 use Rattle.card_inventory.specs.declared.error.InventoryError.{InventoryError}
 use Rattle.card_inventory.specs.declared.error.InventoryError.TheVariants.{SourceFailed, EmptyCard, TooManyFiles, BadPath, BadDate, TooManyBytes, Control, TooBig, Clash as FilesClash, Memory as CardMemory}
 use Rattle.fresh_opening.specs.declared.error.FreshError.{FreshError}

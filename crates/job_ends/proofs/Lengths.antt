@@ -1,7 +1,7 @@
 -- A run of a job that ended by the length of a file read that length, and its card is not steady.
-use Rattle.std.proofs.Common.{◌≡◌, ◌≢◌, ◌⊎◌, inl, inr, ℕ, ◌+◌, ◌<◌, Bool, true, false, cond, List, [], ◌∷◌, ◌++◌, length, refl, sym, ap, ◌∙◌, subst, append-nil}
-use Rattle.std.specs.Prelude.{Option, Some, None, Contains, nat_eq, option_map, unwrap_or}
-use Rattle.std.specs.List.{slice_get, flat_map, AllByRecursion}
+use Rattle.std.proofs.Common.{◌≡◌, ◌⊎◌, inl, inr, ℕ, ◌+◌, ◌<◌, Bool, false, cond, List, [], ◌∷◌, ◌++◌, length, refl, sym, ap, ◌∙◌, subst, append-nil}
+use Rattle.std.specs.Prelude.{Option, Some, None, option_map, unwrap_or}
+use Rattle.std.specs.List.{slice_get, flat_map}
 use Rattle.std.specs.FinMap.{get}
 use Rattle.std.proofs.lemmas.List.Elements.{filter-append}
 use Rattle.std.proofs.lemmas.Option.{slice_get_within, get_or_from_slice_get}
@@ -12,7 +12,7 @@ use Rattle.card_inventory.specs.Card.{IsInventoryOfCard}
 use Rattle.copy_plan.specs.declared.file.PlannedFile.{PlannedFile}
 use Rattle.copy_plan.specs.Plan.{PlanValue}
 use Rattle.run_ends.specs.Ends.{EndsEarly, EndsLate, GaveOtherLength}
-use Rattle.run_ends.specs.Reads.{is_read, reads_of, got_in, card_given}
+use Rattle.run_ends.specs.Reads.{is_read, reads_of, got_in}
 use Rattle.run_state.specs.State.{Ordered}
 use Rattle.job_story.specs.Plans.{IsRunPlan}
 use Rattle.job_story.specs.Run.{Run}

@@ -6,7 +6,7 @@ use Rattle.std.proofs.lemmas.Bool.Decides.{nat_tests}
 use Rattle.std.proofs.lemmas.List.{map-append, length-append}
 use Rattle.std.proofs.lemmas.List.Elements.{filter-append}
 use Rattle.bay_core.specs.declared.event.Event.{Event}
-use Rattle.bay_core.specs.declared.event.Event.TheVariants.{SourceList, Moment, Say}
+use Rattle.bay_core.specs.declared.event.Event.TheVariants.{Say}
 use Rattle.bay_core.specs.Replay.{Device, Drive}
 use Rattle.bay_core.specs.Went.{Only, Then, MaySee}
 use Rattle.card_inventory.specs.declared.error.InventoryError.TheVariants.{SourceFailed}
@@ -18,7 +18,7 @@ use Rattle.fresh_opening.specs.declared.error.FreshError.TheVariants.{Inventory,
 use Rattle.fresh_opening.specs.Looks.{EndCalls as EndingCalls}
 use Rattle.fresh_opening.specs.Openings.{AsksMoment, EndsWith}
 use Rattle.fresh_opening.specs.Refusals.{Scene}
-use Rattle.fresh_opening.specs.Sights.{Sight, Dropped, Found, HaltCalls, SightCalls, SightsCalls}
+use Rattle.fresh_opening.specs.Sights.{Sight, Dropped, Found, HaltCalls, SightsCalls}
 use Rattle.report_text.specs.Losses.{dropped_fault_text}
 use Rattle.run_lines.specs.Lines.{lines_in}
 use Rattle.run_lines.specs.Words.{Mark, Lost, Fault, Word, word_text, marks_of, is_step, is_seal, steps_in, sealed_in}

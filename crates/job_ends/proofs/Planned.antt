@@ -1,14 +1,14 @@
 -- An opening that gave an order, call by call: its plan is the run's, and what was found on its drives.
-use Rattle.std.proofs.Common.{◌≡◌, ◌≢◌, ◌⊎◌, inl, inr, ℕ, zero, suc, ◌+◌, ◌<◌, ◌≤◌, Bool, true, false, List, [], ◌∷◌, ◌++◌, length, map, refl, sym, ap, ◌∙◌, subst, arith, append_assoc, append-nil}
-use Rattle.std.specs.Prelude.{Option, Some, None, Result, Ok}
+use Rattle.std.proofs.Common.{◌≡◌, ℕ, zero, suc, ◌+◌, List, [], ◌∷◌, ◌++◌, length, map, refl, sym, ap, ◌∙◌, subst, arith, append_assoc, append-nil}
+use Rattle.std.specs.Prelude.{Option, Some, Ok}
 use Rattle.std.specs.List.{slice_get, AllByRecursion}
 use Rattle.std.specs.FinMap.{get}
 use Rattle.bay_core.specs.declared.event.Event.{Event}
-use Rattle.bay_core.specs.declared.event.Event.TheVariants.{SourceList, DriveList, Moment, Say}
+use Rattle.bay_core.specs.declared.event.Event.TheVariants.{SourceList, DriveList, Moment}
 use Rattle.bay_core.specs.declared.event.FileInfo.{FileInfo}
 use Rattle.bay_core.specs.Paths.{journal_path}
-use Rattle.bay_core.specs.Replay.{Device, Drive, Attaching, Output, Clock, calls_on, device_of}
-use Rattle.bay_core.specs.Went.{AllOn, Only, Then}
+use Rattle.bay_core.specs.Replay.{Device, Drive, Clock, calls_on, device_of}
+use Rattle.bay_core.specs.Went.{AllOn, Only}
 use Rattle.bay_core.specs.World.{World}
 use Rattle.bay_core.proofs.Crash.{calls_all}
 use Rattle.bay_core.proofs.Replays.{calls_on-append}
@@ -17,7 +17,7 @@ use Rattle.copy_plan.specs.declared.file.PlannedFile.{PlannedFile}
 use Rattle.copy_plan.specs.Plan.{PlanValue, IsPlan}
 use Rattle.drive_journal.specs.declared.order.Order.{Order}
 use Rattle.drive_journal.specs.declared.record.Rec.{Rec}
-use Rattle.drive_journal.specs.Found.{JournalFound, Journal, JournalReads, IsLookedAt}
+use Rattle.drive_journal.specs.Found.{JournalFound, Journal, JournalReads}
 use Rattle.drive_journal.specs.Journal.{HoldsJournal}
 use Rattle.drive_journal.specs.Look.{FoundFault}
 use Rattle.folder_listing.specs.Listing.{listing}
@@ -26,10 +26,10 @@ use Rattle.fresh_opening.specs.Openings.{FreshLooks, AsksMoment, draft_of, start
 use Rattle.fresh_opening.specs.Sights.{Sight, Dropped, Found, FoundCalls, SightCalls, SightsCalls}
 use Rattle.command_words.specs.Jobs.{Task, Offloads, Job}
 use Rattle.job_story.specs.Plans.{IsMomentCall, IsCardListing, IsRunPlan}
-use Rattle.job_story.specs.Run.{Run, run_with, IsFirstCall}
-use Rattle.job_story.specs.Story.{Opens, asked_by}
+use Rattle.job_story.specs.Run.{Run, run_with}
+use Rattle.job_story.specs.Story.{asked_by}
 use Rattle.job_calls.specs.Calls.{job_attaches, drive_attaches}
-use Rattle.job_calls.proofs.Follows.{each_then, off_drive}
+use Rattle.job_calls.proofs.Follows.{each_then}
 use Rattle.job_calls.proofs.Opening.{found_at, off_sight, off_sights}
 use Rattle.job_calls.proofs.Parts.{Opened}
 use Rattle.job_calls.proofs.Told.{cut, tells_went}

@@ -1,19 +1,18 @@
 -- What is so of a run whose turns were made, by its end.
-use Rattle.std.proofs.Common.{◌≡◌, ◌≢◌, ◌⊎◌, inl, inr, ℕ, zero, suc, ◌+◌, ◌<◌, ◌≤◌, Bool, true, false, List, [], ◌∷◌, ◌++◌, length, map, refl, sym, ap, ◌∙◌, subst, arith, append_assoc, append-nil}
-use Rattle.std.specs.Prelude.{Option, Some, None, Result, Ok, Contains}
-use Rattle.std.specs.List.{slice_get, AllByRecursion}
+use Rattle.std.proofs.Common.{◌≡◌, ◌≢◌, ◌⊎◌, inl, inr, ℕ, ◌<◌, ◌≤◌, true, false, List, [], ◌∷◌, ◌++◌, length, map, refl, sym, ap, ◌∙◌, subst, arith, append_assoc, append-nil}
+use Rattle.std.specs.Prelude.{Option, Some, None, Ok, Contains}
+use Rattle.std.specs.List.{slice_get}
 use Rattle.std.proofs.lemmas.Bool.{cases_Bool, false≢true}
 use Rattle.std.proofs.lemmas.List.{map-append}
 use Rattle.bay_core.specs.declared.event.Event.{Event}
-use Rattle.bay_core.specs.declared.event.Event.TheVariants.{SourceList, Moment}
+use Rattle.bay_core.specs.declared.event.Event.TheVariants.{Moment}
 use Rattle.bay_core.specs.Map.{Map, Dates, AllDated}
 use Rattle.bay_core.specs.World.{World, Attached, Steady}
 use Rattle.command_words.specs.Jobs.{Job}
-use Rattle.copy_plan.specs.declared.file.PlannedFile.{PlannedFile}
 use Rattle.copy_plan.specs.Plan.{PlanValue, IsPlan}
 use Rattle.drive_journal.specs.declared.order.DriveStart.{DriveStart}
 use Rattle.drive_journal.specs.declared.order.Order.{Order}
-use Rattle.fan_core.specs.Flags.{has, count}
+use Rattle.fan_core.specs.Flags.{has}
 use Rattle.fresh_opening.specs.Orders.{start_at}
 use Rattle.fresh_opening.specs.Sights.{Sight, Dropped as DroppedSight, Found}
 use Rattle.offload_law.specs.Clear.{IsSaid, IsCalledSealed}
@@ -26,7 +25,7 @@ use Rattle.run_state.specs.Rules.{IsStart, IsOver, FitDrives}
 use Rattle.run_state.specs.Runs.{Point, Alone, Runs}
 use Rattle.run_state.specs.State.{Ordered, Drives, drive_at, is_gone, is_sealed, is_of_run, files_of}
 use Rattle.offload_run.specs.Offload.{ordered_of, stands_at, begins_at}
-use Rattle.run_ends.specs.Ends.{EndsRightly, GaveOtherLength}
+use Rattle.run_ends.specs.Ends.{GaveOtherLength}
 use Rattle.run_ends.specs.Known.{KnowsReadsOnward}
 use Rattle.run_ends.specs.Reads.{reads_of}
 use Rattle.run_ends.proofs.Drives.{of_run, gone_over, sealed_over}
@@ -50,7 +49,7 @@ use Rattle.job_calls.proofs.Owning.{sights_of}
 use Rattle.job_calls.proofs.Parts.{Opened, Turned}
 use Rattle.job_calls.proofs.Turning.{IsOfSights}
 use Rattle.job_ends.specs.Counts.{EndCounts}
-use Rattle.job_ends.specs.Ends.{AllSealed, IsDropped, SomeDropped, HasOtherLength, EndGives, ZeroWhere}
+use Rattle.job_ends.specs.Ends.{AllSealed, IsDropped, SomeDropped, EndGives, ZeroWhere}
 use Rattle.job_ends.specs.Says.{IsFoundBare, SaysAll, SaysSome}
 use Rattle.job_ends.proofs.Counting.{TheRules, EndsCaused}
 use Rattle.job_ends.proofs.Gives.{no_job_lines, job_lines, said_behind, said_before, said_either}
@@ -92,10 +91,10 @@ four_lines : (A B D X Y Z : List (List ℕ)) → A ≡ X → B ≡ Y ++ Z → A 
 four_lines A B D X Y Z one two = (λ i. one i ++ (two i ++ D)) ∙ ap (λ (l : List (List ℕ)). X ++ l) (append_assoc Y Z D) ∙ sym (append_assoc X Y (Z ++ D))
 
 module _ (rules : TheRules) (ends_caused : EndsCaused) (in_order : InOrder) (one_line : OneLine) (other_lengths : OtherLengths) (short_files : ShortFiles)
-  (job : Job) (end : JobEnd) (result : ℕ) (old new mid late done : World) (past since opening turning last : List Event) (order : Order) (few : length job.drives ≤ 8) (some : 1 ≤ length job.drives)
-  (o : Opened job (Ok order) (past ++ job_attaches job) opening mid late) (t : Turned job order end ((past ++ job_attaches job) ++ opening) turning late done) (lasts : Lasts end result last) (same : new.attached ≡ done.attached)
-  (is : since ≡ job_attaches job ++ (opening ++ (turning ++ last))) (alone : Runs (ordered_of t.turns.run) (record { at = stands_at t.turns.run; pool = t.turns.pool; world = late }) (record { at = stands_at t.turns.then_run; pool = t.turns.then_pool; world = done }))
-  (knows : KnowsReadsOnward (ordered_of t.turns.run) (record { at = stands_at t.turns.run; pool = t.turns.pool; world = late })) where
+    (job : Job) (end : JobEnd) (result : ℕ) (old new mid late done : World) (past since opening turning last : List Event) (order : Order) (few : length job.drives ≤ 8) (some : 1 ≤ length job.drives)
+    (o : Opened job (Ok order) (past ++ job_attaches job) opening mid late) (t : Turned job order end ((past ++ job_attaches job) ++ opening) turning late done) (lasts : Lasts end result last) (same : new.attached ≡ done.attached)
+    (is : since ≡ job_attaches job ++ (opening ++ (turning ++ last))) (alone : Runs (ordered_of t.turns.run) (record { at = stands_at t.turns.run; pool = t.turns.pool; world = late }) (record { at = stands_at t.turns.then_run; pool = t.turns.then_pool; world = done }))
+    (knows : KnowsReadsOnward (ordered_of t.turns.run) (record { at = stands_at t.turns.run; pool = t.turns.pool; world = late })) where
   abbrev run : Run
   run = run_with job old new since
 
@@ -164,7 +163,7 @@ module _ (rules : TheRules) (ends_caused : EndsCaused) (in_order : InOrder) (one
   run_all s none =
       let sealed : sealed_in (lost_words 0 w.sights ++ s.words) ≡ sealed_in s.words = words_sealed run ordered at_first t.turns.starts w.sights w.count stands IsWhole fits_whole s.words s.are in
       let clear : clear_lines ordered.copies (length (sealed_in s.words)) ++ lines_in last ≡ clear_lines job.copies (length (sealed_in (lost_words 0 w.sights ++ s.words))) =
-          ap (λ (l : List (List ℕ)). clear_lines ordered.copies (length (sealed_in s.words)) ++ l) none ∙ append-nil (clear_lines ordered.copies (length (sealed_in s.words))) ∙ (λ i. clear_lines (copies_are i) (length (sym sealed i))) in
+      ap (λ (l : List (List ℕ)). clear_lines ordered.copies (length (sealed_in s.words)) ++ l) none ∙ append-nil (clear_lines ordered.copies (length (sealed_in s.words))) ∙ (λ i. clear_lines (copies_are i) (length (sym sealed i))) in
       record {
         p = ordered.plan;
         words = lost_words 0 w.sights ++ s.words;

@@ -1,16 +1,15 @@
 -- Each end of a run, however it went.
-use Rattle.std.proofs.Common.{◌≡◌, ◌≢◌, ◌⊎◌, inl, inr, ℕ, ◌<◌, ◌≤◌, true, false, List, [], ◌∷◌, ◌++◌, length, map, take, refl, sym, ap, ◌∙◌, subst, arith}
-use Rattle.std.specs.Prelude.{Some, Result, Ok, Contains}
+use Rattle.std.proofs.Common.{◌≡◌, inl, inr, ℕ, ◌≤◌, false, List, [], ◌++◌, length, take, refl, subst, arith}
+use Rattle.std.specs.Prelude.{Contains}
 use Rattle.bay_core.specs.declared.event.Event.{Event}
 use Rattle.bay_core.specs.declared.event.Event.TheVariants.{Say}
-use Rattle.bay_core.specs.Looks.{has_failed}
 use Rattle.bay_core.specs.Map.{Map, Dates, AllDated}
 use Rattle.bay_core.specs.World.{World}
 use Rattle.command_words.specs.Jobs.{Job}
-use Rattle.offload_law.specs.Clear.{IsSaid, IsCalledSealed}
+use Rattle.offload_law.specs.Clear.{IsSaid}
 use Rattle.report_text.specs.Run.{sealed_text}
 use Rattle.run_lines.specs.Lines.{lines_in}
-use Rattle.run_lines.proofs.Saying.{lines_append, said_line}
+use Rattle.run_lines.proofs.Saying.{said_line}
 use Rattle.job_story.specs.Ends.{JobEnd}
 use Rattle.job_story.specs.Run.{run_with, IsSteady}
 use Rattle.job_calls.specs.Calls.{job_attaches, NoneAfterFailure, StopsAttaching}
@@ -22,7 +21,7 @@ use Rattle.job_calls.proofs.Owning.{stands_of}
 use Rattle.job_calls.proofs.Parts.{CallsOwn, Parts, halted, opened, ran, parts_of}
 use Rattle.job_calls.proofs.Stopping.{ReadyWithout}
 use Rattle.job_ends.specs.Counts.{EndCounts}
-use Rattle.job_ends.specs.Ends.{AllSealed, EndGives, ZeroWhere, FiveWhere}
+use Rattle.job_ends.specs.Ends.{EndGives, ZeroWhere, FiveWhere}
 use Rattle.job_ends.proofs.Counting.{TheRules, AloneRuns, EndsCaused, KnowsOnward, story_counts, the_runs, run_knows}
 use Rattle.job_ends.proofs.Gives.{no_plan, no_job_lines, said_either, take_lines, failed_lines, stopped_gives, closed_gives}
 use Rattle.job_ends.proofs.Lasts.{last_unsealed}

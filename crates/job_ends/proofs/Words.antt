@@ -1,31 +1,29 @@
 -- The words of a run whose turns were made: the losses of its looks, and then those of its turns.
-use Rattle.std.proofs.Common.{◌≡◌, ◌≢◌, ◌⊎◌, inl, inr, ℕ, zero, suc, ◌+◌, ◌<◌, ◌≤◌, Bool, true, false, cond, not, List, [], ◌∷◌, ◌++◌, length, map, refl, sym, ap, ◌∙◌, subst, arith, append_assoc, append-nil}
-use Rattle.std.specs.Prelude.{◌||◌, Option, Some, None, Result, Ok, nat_eq, Contains, replicate, slice_index_or}
+use Rattle.std.proofs.Common.{◌≡◌, inl, inr, ℕ, zero, suc, ◌<◌, ◌≤◌, Bool, true, false, cond, not, List, [], ◌∷◌, ◌++◌, length, map, refl, sym, ap, ◌∙◌, subst, arith}
+use Rattle.std.specs.Prelude.{◌||◌, Option, Some, None, nat_eq, Contains, replicate, slice_index_or}
 use Rattle.std.specs.List.{slice_get, filter, AllByRecursion}
 use Rattle.std.proofs.lemmas.Bool.{cases_Bool, false≢true}
 use Rattle.std.proofs.lemmas.Bool.Decides.{nat_tests}
 use Rattle.std.proofs.lemmas.List.{map-append}
 use Rattle.std.proofs.lemmas.List.Elements.{filter-append, All-contains, All-from_recursion, Contains-append_cases}
 use Rattle.std.proofs.lemmas.Option.{slice_get_within}
-use Rattle.bay_core.specs.declared.event.Event.{Event}
 use Rattle.copy_plan.specs.Inventory.{EachPair}
 use Rattle.copy_plan.specs.Plan.{PlanValue}
-use Rattle.drive_journal.specs.declared.order.DriveStart.{DriveStart}
 use Rattle.drive_journal.specs.Found.{JournalFound}
-use Rattle.fan_core.specs.Flags.{has, no_drives}
+use Rattle.fan_core.specs.Flags.{has}
 use Rattle.fresh_opening.specs.Openings.{start_of}
 use Rattle.fresh_opening.specs.Orders.{start_at}
 use Rattle.fresh_opening.specs.Sights.{Sight, Dropped, Found}
 use Rattle.run_state.specs.Rules.{IsStart}
 use Rattle.run_state.specs.Runs.{Point}
-use Rattle.run_state.specs.State.{Ordered, DriveAt, Gone, Fresh, At, Drives, drive_at, is_gone, is_of_run, files_of}
+use Rattle.run_state.specs.State.{Ordered, DriveAt, Gone, Fresh, drive_at, is_gone, is_of_run, files_of}
 use Rattle.offload_run.specs.Offload.{begins_at}
 use Rattle.run_lines.specs.Words.{Mark, Lost, Fault, Word, all_marks, begun_marks, marks_of, is_step, is_seal, steps_in, sealed_in, Before, IsSoFar, IsWhole, AreWords}
 use Rattle.run_lines.proofs.Marks.{cut_first}
 use Rattle.job_story.specs.Plans.{IsRunPlan}
 use Rattle.job_story.specs.Run.{Run}
 use Rattle.job_ends.specs.Says.{IsFoundBare, AreJobWords}
-use Rattle.job_ends.proofs.Looks.{word, lost_words, sight_marks, lost_steps, lost_sealed, lost_ours, lost_each, lost_marks, marks_append}
+use Rattle.job_ends.proofs.Looks.{lost_words, sight_marks, lost_steps, lost_sealed, lost_ours, lost_each, lost_marks, marks_append}
 
 -- ---- drives by their looks
 

@@ -1,5 +1,5 @@
 -- How a run of a job ends, and why: docs/FORMATS.md, "Statuses".
-use Rattle.std.specs.Prelude.{◌≡◌, ◌≢◌, ◌⊎◌, ℕ, ◌<◌, ◌+◌, false, List, [], ◌++◌, length, take, Contains, Some}
+use Rattle.std.specs.Prelude.{◌≡◌, ◌≢◌, ◌⊎◌, ℕ, ◌<◌, ◌+◌, false, List, [], length, take, Contains, Some}
 use Rattle.std.specs.List.{slice_get}
 use Rattle.bay_core.specs.declared.event.Event.{Event}
 use Rattle.bay_core.specs.declared.event.Event.TheVariants.{Say}

@@ -4,5 +4,6 @@
 mod laws;
 
 pub use laws::{
-    all_sealed_only_at_zero, counts_show_the_end, ends_give_lines_and_causes, lines_not_said_are_five,
+    all_sealed_only_at_zero, counts_show_the_end, ends_give_lines_and_causes,
+    lines_not_said_are_five,
 };
