@@ -6,3 +6,5 @@ pub mod Printed
 pub mod Jobs
 pub mod Ran
 pub mod Placed
+pub mod OneJob
+pub mod Promised

@@ -4,3 +4,4 @@ pub mod Runs
 pub mod Verify
 pub mod Print
 pub mod Station
+pub mod Promises

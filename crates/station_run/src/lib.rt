@@ -2,6 +2,7 @@
 #![tactic(auto)]
 
 mod printing;
+mod promises;
 mod run;
 
 pub use run::{run_command, station};

@@ -1,7 +1,10 @@
 // A run of the station.
 ghost use Rattle.std.specs.Prelude.{◌≡◌, ◌<◌, ◌-◌, ◌^◌};
+ghost use Rattle.command_words.specs.Jobs.{Job, IsJob};
 ghost use Rattle.command_words.specs.Words.{drive_word, IsCommand};
+ghost use Rattle.job_steps.specs.Prefix.{CrashPrefix, CallsClear};
 ghost use Rattle.last_lines.specs.Ends.{Ended};
+ghost use Rattle.station_run.specs.Promises.{OfJob, KeepsPromises};
 ghost use Rattle.station_run.specs.Ends.{fault_end, load_end, broken_end, outcome_status};
 ghost use Rattle.station_run.specs.Runs.{Unchanged};
 ghost use Rattle.station_run.specs.Verify.{VerifyRun, VerifiedThen};
@@ -9,6 +12,7 @@ ghost use Rattle.station_run.specs.Print.{PrintRun, PrintedThen};
 ghost use Rattle.station_run.specs.Station.{HasRoom, RoomFor, Ran, ChangesNothing};
 
 use crate::printing::print_list;
+use crate::promises::runs_keep_their_promises;
 use bay_core::Bay;
 use command_words::{Command, WordList, WordsError, read_words};
 use job_run::{OffloadJob, run_offload};
@@ -186,12 +190,10 @@ fn run_asked<B: Bay>(
     }
 }
 
-/// Does what the words ask for, and answers the status (docs/OPERATING.md).
-pub fn run_command<B: Bay>(alloc: Global, bay: &mut B, words: &WordList) -> u8
+// Reads the words, and does what they ask for.
+fn run_words<B: Bay>(alloc: Global, bay: &mut B, words: &WordList) -> u8
     requires { HasRoom words.now (B.world bay.old).attached }
-    ensures ran { Ran words.now result (B.world bay.old) (B.world bay.new) }
-    // Nothing is changed by a run that ended with 2, 3, 7 or 9, and by none whose words are no job.
-    ensures unchanged { ChangesNothing words.now result → Unchanged (B.world bay.old) (B.world bay.new) }
+    ensures { Ran words.now result (B.world bay.old) (B.world bay.new) }
 {
     let mut scratch = match Scratch::new(alloc) {
         Ok(scratch) => scratch,
@@ -204,12 +206,34 @@ pub fn run_command<B: Bay>(alloc: Global, bay: &mut B, words: &WordList) -> u8
     }
 }
 
+/// Does what the words ask for, and answers the status (docs/OPERATING.md).
+pub fn run_command<B: Bay>(alloc: Global, bay: &mut B, words: &WordList) -> u8
+    requires { HasRoom words.now (B.world bay.old).attached }
+    ensures ran { Ran words.now result (B.world bay.old) (B.world bay.new) }
+    // Nothing is changed by a run that ended with 2, 3, 7 or 9, and by none whose words are no job.
+    ensures unchanged { ChangesNothing words.now result → Unchanged (B.world bay.old) (B.world bay.new) }
+    ensures prefix { OfJob CrashPrefix words.now (B.world bay.old) (B.world bay.new) }
+    ensures clear { OfJob CallsClear words.now (B.world bay.old) (B.world bay.new) }
+    ensures promises { (job : Job) → IsJob words.now job → KeepsPromises job result (B.world bay.old) (B.world bay.new) }
+{
+    runs_keep_their_promises();
+    run_words(alloc, bay, words)
+}
+
 /// The station: everything that the program does with its words, over any bay.
+///
+/// The headline (docs/MODEL.md, "The headline") stands in two clauses, of each run whose words are a job's, whatever they are, and
+/// whichever calls fail: wherever the run stops, within a write too, each honest drive is left with a prefix of the offload's steps
+/// that holds every step announced for it (`prefix`); and the card is called clear only where the required number of drives are
+/// sealed for good (`clear`).
 pub fn station<B: Bay>(alloc: Global, bay: &mut B, words: &WordList) -> u8
     requires { HasRoom words.now (B.world bay.old).attached }
     ensures ran { Ran words.now result (B.world bay.old) (B.world bay.new) }
     // Nothing is changed by a run that ended with 2, 3, 7 or 9, and by none whose words are no job.
     ensures unchanged { ChangesNothing words.now result → Unchanged (B.world bay.old) (B.world bay.new) }
+    ensures prefix { OfJob CrashPrefix words.now (B.world bay.old) (B.world bay.new) }
+    ensures clear { OfJob CallsClear words.now (B.world bay.old) (B.world bay.new) }
+    ensures promises { (job : Job) → IsJob words.now job → KeepsPromises job result (B.world bay.old) (B.world bay.new) }
 {
     run_command(alloc, bay, words)
 }

@@ -1,0 +1,4 @@
+pub mod Firsts
+pub mod Scenes
+pub mod Refusing
+pub mod Steadying

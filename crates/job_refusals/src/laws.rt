@@ -1,0 +1,26 @@
+// Laws of the refusals of runs of jobs. Each is the contract of a function that does nothing else.
+ghost use Rattle.std.specs.Prelude.{ℕ, List};
+ghost use Rattle.bay_core.specs.declared.event.Event.{Event};
+ghost use Rattle.bay_core.specs.World.{World};
+ghost use Rattle.command_words.specs.Jobs.{Job};
+ghost use Rattle.job_story.specs.Ends.{JobEnd};
+ghost use Rattle.job_story.specs.Run.{run_with};
+ghost use Rattle.job_calls.specs.Told.{RanTold};
+ghost use Rattle.job_refusals.specs.Sighted.{RefusesFirst, PassesUnrefused, ListsItsFiles};
+
+use run_calls::calls_are_its_own;
+
+/// A run of a job is refused only with the first refusal that applies by what its calls saw: the attaches, then the listing of the
+/// card, then the looks at its drives from the first on, up to the one that is refused, then the moment of its plan. A refused run
+/// makes no call that may change or settle a drive.
+///
+/// A run makes such a call only where, by what it saw of all its drives, with its plan, no refusal applies.
+///
+/// What a steady card listed are its files, in each run that did not end for want of memory.
+pub fn refusals_are_seen()
+    ensures only { (job : Job) (end : JobEnd) (result : ℕ) (old new : World) (past since : List Event) → RanTold job end result old new past since → RefusesFirst (run_with job old new since) end }
+    ensures passed { (job : Job) (end : JobEnd) (result : ℕ) (old new : World) (past since : List Event) → RanTold job end result old new past since → PassesUnrefused (run_with job old new since) }
+    ensures listing { (job : Job) (end : JobEnd) (result : ℕ) (old new : World) (past since : List Event) → RanTold job end result old new past since → ListsItsFiles (run_with job old new since) end }
+{
+    calls_are_its_own();
+}
