@@ -1,5 +1,5 @@
 -- A run of a job reads back what it says that it did.
-use Rattle.std.proofs.Common.{◌≡◌, ◌≢◌, ◌⊎◌, inl, inr, ℕ, ◌^◌, ◌<◌, Bool, true, false, not, List, [], ◌∷◌, ◌++◌, length, map, refl, sym, ap, ◌∙◌, subst, append_assoc}
+use Rattle.std.proofs.Common.{◌≡◌, ◌≢◌, ◌⊎◌, inl, inr, ℕ, ◌^◌, ◌<◌, Bool, true, false, not, List, [], ◌∷◌, ◌++◌, refl, sym, ap, ◌∙◌, subst, append_assoc}
 use Rattle.std.specs.Prelude.{◌||◌, Some, codes}
 use Rattle.std.specs.List.{flat_map}
 use Rattle.std.proofs.lemmas.Bool.{false≢true}
@@ -11,9 +11,8 @@ use Rattle.bay_core.specs.Went.{Went}
 use Rattle.bay_core.specs.World.{World}
 use Rattle.crash_law.specs.Lines.{AllLines}
 use Rattle.copy_plan.specs.declared.file.PlannedFile.{PlannedFile}
-use Rattle.copy_plan.specs.Plan.{PlanValue, list_of}
+use Rattle.copy_plan.specs.Plan.{list_of}
 use Rattle.digest_set.specs.Triple.{triple}
-use Rattle.drive_journal.specs.declared.record.Rec.{Rec}
 use Rattle.drive_journal.specs.Look.{next_gate}
 use Rattle.fan_core.specs.Flags.{has}
 use Rattle.run_state.specs.Rules.{IsRun, IsOver}
@@ -23,21 +22,20 @@ use Rattle.run_reads.specs.Backs.{IsDatedAtOnce, IsTheRecord, recording_calls, L
 use Rattle.run_reads.specs.Parts.{Starts}
 use Rattle.run_reads.specs.Reads.{got_in, card_given}
 use Rattle.run_reads.proofs.Cards.{given_append}
-use Rattle.run_reads.proofs.Lines.{IsOther, about_done}
+use Rattle.run_reads.proofs.Lines.{about_done}
 use Rattle.run_reads.proofs.Since.{since_at}
 use Rattle.command_words.specs.Jobs.{Job}
 use Rattle.job_story.specs.Ends.{JobEnd}
 use Rattle.job_story.specs.Run.{Run, run_with}
 use Rattle.job_calls.specs.Told.{RanTold}
 use Rattle.job_calls.proofs.Parts.{CallsOwn}
-use Rattle.job_losses.proofs.Lines.{Lines}
 use Rattle.job_losses.proofs.Records.{records_behind, records_untouched}
 use Rattle.job_losses.proofs.Told.{since_went}
 use Rattle.job_losses.proofs.Written.{IsUnbegun}
-use Rattle.job_reads.specs.Backs.{IsCopiedAt, IsReadBack, IsDoneRightly, IsListReadBack, IsSealedRightly, ReadsBack}
+use Rattle.job_reads.specs.Backs.{IsCopiedAt, IsDoneRightly, IsListReadBack, IsSealedRightly, ReadsBack}
 use Rattle.job_reads.proofs.Outside.{Outside, none_read}
-use Rattle.job_reads.proofs.Places.{NotIn, Between, between}
-use Rattle.job_reads.proofs.Sealing.{IsNotFound, SealedSo, turns_seal}
+use Rattle.job_reads.proofs.Places.{NotIn, between}
+use Rattle.job_reads.proofs.Sealing.{IsNotFound, turns_seal}
 use Rattle.job_reads.proofs.Turning.{IsNew, Turning, by_turns}
 
 lines_at : (Q : List ℕ → Type 0) (front rest : List Event) (line : List ℕ) (ok : Bool) → AllLines Q (front ++ Say line ok ∷ rest) → Q line
@@ -153,8 +151,8 @@ module _ (laws : BackLaws) (job : Job) (old new : World) (since : List Event) wh
           let place = between t.first t.turning t.last before after (Say line ok) (no_done t.first t.early d line ok begins) (no_done t.last t.late d line ok begins) (sym t.is ∙ is) in
           elim (new_or (drive_at t.a.at.drives.each d) (t.fresh d)) [
             | inl there ↦
-              let of : is_of_run t.a.at.drives d ≡ true = ap (λ (g : Bool). not g || has t.a.at.drives.dropped d) there in
-              subst (IsDoneRightly run d line) (sym place.before_is) (done d line place.front (read.lines.done d of place.front place.rest line ok place.at begins))
+                let of : is_of_run t.a.at.drives d ≡ true = ap (λ (g : Bool). not g || has t.a.at.drives.dropped d) there in
+                subst (IsDoneRightly run d line) (sym place.before_is) (done d line place.front (read.lines.done d of place.front place.rest line ok place.at begins))
             | inr over ↦ absurd (false≢true (sym (not_over d low over place.front place.rest line ok place.at) ∙ about_done d line begins))
           ]
 

@@ -5,7 +5,7 @@ use Rattle.std.specs.List.{slice_get, AllByRecursion}
 use Rattle.std.specs.Cmp.Lexicographic.{other_text}
 use Rattle.std.proofs.lemmas.Bool.{false≢true}
 use Rattle.bay_core.specs.declared.event.Event.{Event}
-use Rattle.bay_core.specs.declared.event.Event.TheVariants.{SourceRead, DriveRead, Write, Rename, Pick}
+use Rattle.bay_core.specs.declared.event.Event.TheVariants.{Rename}
 use Rattle.bay_core.specs.Looks.{is_effect, IsUntouched}
 use Rattle.bay_core.specs.Paths.{new_path, part_path, journal_path}
 use Rattle.bay_core.specs.Replay.{Device, Drive, Output, Clock, device_of}

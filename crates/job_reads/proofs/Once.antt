@@ -69,8 +69,8 @@ first_read s q [] e R some = absurd (cc some)
 first_read s q (x ∷ L) e R some = elim (cases_Bool (is_read s q x)) [
   | inl is ↦ let r = read_is s q x is in record { front = []; back = L; at = r.at; want = r.want; got = r.got; is = ap (λ (y : Event). y ∷ L) r.is }
   | inr off ↦
-    let rest = first_read s q L e R (sym (ap (λ b. cond b (x ∷ reads_of s q L) (reads_of s q L)) off) ∙ some) in
-    record { front = x ∷ rest.front; back = rest.back; at = rest.at; want = rest.want; got = rest.got; is = ap (λ (l : List Event). x ∷ l) rest.is }
+      let rest = first_read s q L e R (sym (ap (λ b. cond b (x ∷ reads_of s q L) (reads_of s q L)) off) ∙ some) in
+      record { front = x ∷ rest.front; back = rest.back; at = rest.at; want = rest.want; got = rest.got; is = ap (λ (l : List Event). x ∷ l) rest.is }
 ]
 
 none_in_order : (path : List ℕ) (L : List Event) → L ≡ [] → InOrder 0 path 0 L

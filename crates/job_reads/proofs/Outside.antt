@@ -1,6 +1,6 @@
 -- The calls of a run outside its turns: its attaches, its opening and its last lines. They read no file of a card, change no drive, and say no line `done` or `sealed`.
-use Rattle.std.proofs.Common.{◌≡◌, inl, inr, ℕ, zero, suc, ◌+◌, Bool, true, false, cond, List, [], ◌∷◌, ◌++◌, length, take, refl, sym, ap, ◌∙◌, subst}
-use Rattle.std.specs.Prelude.{codes, decimal, Some, Result, Ok, Err}
+use Rattle.std.proofs.Common.{◌≡◌, inl, inr, ℕ, zero, suc, ◌+◌, true, false, cond, List, [], ◌∷◌, ◌++◌, length, take, refl, sym, ap, ◌∙◌, subst}
+use Rattle.std.specs.Prelude.{codes, decimal, Result, Ok, Err}
 use Rattle.std.specs.List.{AllByRecursion}
 use Rattle.std.proofs.lemmas.Bool.{false≢true}
 use Rattle.bay_core.specs.declared.event.Event.{Event}
@@ -26,7 +26,7 @@ use Rattle.command_words.specs.Jobs.{Job}
 use Rattle.job_story.specs.Ends.{JobEnd, Sealed, Dropped, Refused, CardUnattached, DriveUnattached, CardFailed, CardChanged, OutFailed, NoMemory, listing_lines, refusal_lines, last_of}
 use Rattle.job_calls.specs.Calls.{is_attach, drive_attaches, job_attaches, StopsAttaching}
 use Rattle.job_calls.proofs.Ending.{Lasts, lasts_of}
-use Rattle.job_calls.proofs.Failing.{is_card_read, IsNoRead, NoRead, lines_unread, attaches_unread, opening_unread}
+use Rattle.job_calls.proofs.Failing.{is_card_read, IsNoRead, NoRead, lines_unread}
 use Rattle.job_calls.proofs.Follows.{each_at, each_then}
 use Rattle.job_losses.proofs.Lines.{Lines, lines_empty, lines_then, lines_one, lines_may}
 use Rattle.job_losses.proofs.Opened.{looked_lines, unlisted_lines}

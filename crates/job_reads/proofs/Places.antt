@@ -1,15 +1,13 @@
 -- A call of a run among its turns, where there is none such outside them.
-use Rattle.std.proofs.Common.{◌≡◌, inl, inr, ℕ, Bool, true, false, List, [], ◌∷◌, ◌++◌, sym, ap, ◌∙◌, subst}
+use Rattle.std.proofs.Common.{◌≡◌, inl, inr, ℕ, Bool, true, false, List, [], ◌∷◌, ◌++◌, sym, subst}
 use Rattle.std.specs.Prelude.{Option}
 use Rattle.std.proofs.lemmas.Bool.{false≢true}
 use Rattle.bay_core.specs.declared.event.Event.{Event}
-use Rattle.bay_core.specs.declared.event.Event.TheVariants.{SourceRead, Rename, Say}
+use Rattle.bay_core.specs.declared.event.Event.TheVariants.{SourceRead, Rename}
 use Rattle.bay_core.specs.Looks.{is_effect, IsUntouched}
 use Rattle.run_calls.proofs.Lists.{split_at}
-use Rattle.run_reads.proofs.Lines.{IsOther}
 use Rattle.job_calls.proofs.Failing.{IsNoRead, NoRead}
 use Rattle.job_calls.proofs.Follows.{each_at}
-use Rattle.job_losses.proofs.Lines.{Lines}
 
 -- this call is not among these
 abbrev pub NotIn : Event → List Event → Type 0

@@ -23,14 +23,14 @@ use Rattle.fan_copier.specs.Copying.{card_of, live_of}
 use Rattle.fan_copier.specs.Turning.{Touches}
 use Rattle.read_back.specs.declared.back.ReadBackError.{ReadBackError}
 use Rattle.read_back.specs.Back.{WholeCalls}
-use Rattle.report_text.specs.Run.{done_text, sealed_text, clear_text}
+use Rattle.report_text.specs.Run.{sealed_text, clear_text}
 use Rattle.report_text.specs.Losses.{dropped_fault_text}
 use Rattle.seal_step.specs.declared.error.SealError.{SealError}
 use Rattle.seal_step.specs.Calls.{SealCalls}
 use Rattle.seal_step.specs.Parts.{list_parts, naming}
 use Rattle.run_state.specs.declared.phase.Phase.{Phase}
 use Rattle.run_state.specs.declared.phase.Phase.TheVariants.{Begins, File, Copies, Dates, Records, Seals, Clears, Ended}
-use Rattle.run_state.specs.Acts.{Says, Puts, MovesOrDrops, begun_at, begin_line, records_at, BegunAloud, BeginTurn, CopySettles, CopyActed, other_listed, DateTurn, RecordStands, record_line, RecordedAloud, RecordTurn, SealStands, seal_line, SealedAloud, SealTurn, is_clear, ClearTurn}
+use Rattle.run_state.specs.Acts.{Says, Puts, MovesOrDrops, begun_at, begin_line, records_at, BegunAloud, BeginTurn, CopySettles, CopyActed, other_listed, DateTurn, RecordStands, record_line, RecordTurn, SealStands, seal_line, SealedAloud, SealTurn, is_clear, ClearTurn}
 use Rattle.run_state.specs.Rules.{FitsPlan, HasAtLeast, Fits, IsRun, IsStart}
 use Rattle.run_state.specs.Runs.{Point, Alone, still, turned, Runs, begins_with}
 use Rattle.run_state.specs.State.{Ordered, DriveAt, Gone, Fresh, Begun, Found, Sealed, Drives, At, Journaled, files_of, drive_at, is_gone, count_sealed, due}

@@ -1,12 +1,11 @@
 -- A run of a job by its parts: it made no turn; or its turns, and the calls before and behind them.
-use Rattle.std.proofs.Common.{◌≡◌, ◌⊎◌, inl, inr, ℕ, zero, suc, true, false, List, [], ◌∷◌, ◌++◌, length, map, refl, sym, ap, ◌∙◌, subst, append_assoc}
-use Rattle.std.specs.Prelude.{Some, Result, Ok, Err}
+use Rattle.std.proofs.Common.{◌≡◌, ◌⊎◌, inl, inr, ℕ, zero, suc, true, List, [], ◌∷◌, ◌++◌, length, map, refl, sym, ap, ◌∙◌, subst, append_assoc}
+use Rattle.std.specs.Prelude.{Some, Result, Ok}
 use Rattle.bay_core.specs.declared.event.Event.{Event}
 use Rattle.bay_core.specs.declared.event.Event.TheVariants.{AttachSource, AttachDrive, AttachFailed}
 use Rattle.bay_core.specs.Replay.{Attaching, device_of}
-use Rattle.bay_core.specs.Went.{AllOn, Only}
+use Rattle.bay_core.specs.Went.{AllOn}
 use Rattle.bay_core.specs.World.{World}
-use Rattle.block_pool.specs.Lent.{PoolState}
 use Rattle.copy_plan.specs.Plan.{PlanValue, IsPlan}
 use Rattle.drive_journal.specs.declared.order.DriveStart.{DriveStart}
 use Rattle.drive_journal.specs.declared.order.Order.{Order}
@@ -19,19 +18,18 @@ use Rattle.run_state.specs.Calls.{IsOfRun}
 use Rattle.run_state.specs.Runs.{Point, Alone}
 use Rattle.run_state.specs.State.{Ordered, DriveAt, Gone, Fresh, Begun, Found, Sealed, drive_at}
 use Rattle.run_reads.specs.Parts.{KeepsFit, Starts}
-use Rattle.run_reads.proofs.Since.{Since, since_at}
+use Rattle.run_reads.proofs.Since.{since_at}
 use Rattle.command_words.specs.Jobs.{Job}
 use Rattle.job_story.specs.Ends.{JobEnd}
 use Rattle.job_story.specs.Plans.{IsRunPlan}
 use Rattle.job_story.specs.Run.{run_with}
-use Rattle.job_story.specs.Story.{asked_by, Opens}
+use Rattle.job_story.specs.Story.{asked_by}
 use Rattle.job_calls.specs.Calls.{is_attach, job_attaches}
 use Rattle.job_calls.specs.Told.{RanTold}
 use Rattle.job_calls.proofs.Ending.{Lasts}
 use Rattle.job_calls.proofs.Failing.{opening_unread}
-use Rattle.job_calls.proofs.Opened.{OpeningCalls}
 use Rattle.job_calls.proofs.Owning.{sights_of}
-use Rattle.job_calls.proofs.Parts.{Parts, halted, opened, ran, Begun as BegunWith, Opened, Turned, CallsOwn, parts_of}
+use Rattle.job_calls.proofs.Parts.{Parts, halted, opened, ran, Opened, Turned, CallsOwn, parts_of}
 use Rattle.job_calls.proofs.Turning.{IsOfSights}
 use Rattle.job_losses.proofs.Attached.{AreAttaches as OnAttaching}
 use Rattle.job_losses.proofs.Opened.{opening_calls}

@@ -1,4 +1,4 @@
--- What a run of a job reads back of its drives before it says that a file is done, and that a drive is sealed: docs/MODEL.md, "The reads of a run of a job".
+-- What a run of a job reads back of its drives before it says that a file is done, and that a drive is sealed: docs/MODEL.md, "Laws of a run of a job".
 use Rattle.std.specs.Prelude.{◌≡◌, ℕ, ◌+◌, ◌^◌, ◌<◌, Bool, true, List, [], ◌∷◌, ◌++◌, length, map, codes, Some}
 use Rattle.std.specs.List.{slice_get, AllByRecursion}
 use Rattle.bay_core.specs.declared.event.Event.{Event}

@@ -1,4 +1,4 @@
--- What a run of a job reads of its card: docs/MODEL.md, "The reads of a run of a job".
+-- What a run of a job reads of its card: docs/MODEL.md, "Laws of a run of a job".
 use Rattle.std.specs.Prelude.{◌≡◌, ℕ, Bool, List, [], ◌∷◌, ◌++◌, Option, Some}
 use Rattle.std.specs.List.{slice_get}
 use Rattle.bay_core.specs.declared.event.Event.{Event}

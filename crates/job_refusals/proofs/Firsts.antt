@@ -23,14 +23,17 @@ IsQuiet Attaching = Unit {0}
 IsQuiet Output = Unit {0}
 IsQuiet _ = ⊥
 
-drives_quiet : (d : ℕ) (places : List (List ℕ)) → AllOn IsQuiet (drive_attaches d places)
+drives_attach : (d : ℕ) (places : List (List ℕ)) → AllOn (Only Attaching) (drive_attaches d places)
 unfolding AllOn
-drives_quiet d [] = tt
-drives_quiet d (place ∷ places) = (tt, drives_quiet (suc d) places)
+drives_attach d [] = tt
+drives_attach d (place ∷ places) = (refl, drives_attach (suc d) places)
+
+pub attaches_attach : (job : Job) → AllOn (Only Attaching) (job_attaches job)
+unfolding AllOn
+attaches_attach job = (refl, drives_attach 0 job.drives)
 
 pub attaches_quiet : (job : Job) → AllOn IsQuiet (job_attaches job)
-unfolding AllOn
-attaches_quiet job = (tt, drives_quiet 0 job.drives)
+attaches_quiet job = all_on (λ x is. subst IsQuiet (sym is) tt) (job_attaches job) (attaches_attach job)
 
 take_quiet : (n : ℕ) (L : List Event) → AllOn IsQuiet L → AllOn IsQuiet (take n L)
 unfolding AllOn

@@ -1,4 +1,9 @@
 pub mod Firsts
+pub mod Looking
 pub mod Scenes
 pub mod Refusing
 pub mod Steadying
+pub mod Comparing
+pub mod Cutting
+pub mod Agreeing
+pub mod Mapping

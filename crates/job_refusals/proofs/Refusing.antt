@@ -57,7 +57,7 @@ unattached_not : (n : ℕ) (e : FreshError) → unattached_end n ≡ Refused e �
 unattached_not zero e is = cc is
 unattached_not (suc n) e is = cc is
 
-turned_not : (n : ℕ) (p : PlanValue) (at : At) (outcome : Outcome) (end : JobEnd) (e : FreshError) → EndsAs n p at outcome end → end ≡ Refused e → ⊥
+pub turned_not : (n : ℕ) (p : PlanValue) (at : At) (outcome : Outcome) (end : JobEnd) (e : FreshError) → EndsAs n p at outcome end → end ≡ Refused e → ⊥
 turned_not n p at Finished end e (inl (all, is)) same = cc (sym is ∙ same)
 turned_not n p at Finished end e (inr (some, is)) same = cc (sym is ∙ same)
 turned_not n p at NoneLeft end e is same = cc (sym is ∙ same)
@@ -87,7 +87,7 @@ card_refused (Control path) old new there known g = record { listed = g.0; is = 
 card_refused (TooBig path) old new there known g = record { listed = g.0; is = g.1; refuses = g.2 }
 card_refused (FilesClash first second) old new there known g = record { listed = g.0; is = g.1; refuses = g.2 }
 
-not_failed : (e : InventoryError) → listing_end e ≡ Refused (Inventory e) → e ≢ SourceFailed
+pub not_failed : (e : InventoryError) → listing_end e ≡ Refused (Inventory e) → e ≢ SourceFailed
 not_failed e is same = let other : listing_end SourceFailed ≡ Refused (Inventory e) = ap listing_end (sym same) ∙ is in cc other
 
 -- ---- a refused run

@@ -4,7 +4,7 @@ use Rattle.std.specs.Prelude.{Some, None, Result}
 use Rattle.bay_core.specs.declared.event.Event.{Event}
 use Rattle.bay_core.specs.declared.event.Event.TheVariants.{SourceList}
 use Rattle.bay_core.specs.declared.event.FileInfo.{FileInfo}
-use Rattle.bay_core.specs.Went.{Then, IsCall}
+use Rattle.bay_core.specs.Went.{AllOn, Then, IsCall}
 use Rattle.bay_core.specs.World.{World}
 use Rattle.drive_journal.specs.declared.order.Order.{Order}
 use Rattle.fresh_opening.specs.declared.error.FreshError.{FreshError}
@@ -16,7 +16,9 @@ use Rattle.job_story.specs.Run.{run_with}
 use Rattle.job_story.specs.Story.{asked_by}
 use Rattle.job_calls.specs.Calls.{job_attaches}
 use Rattle.job_calls.proofs.Told.{Tells, tells_went, tells_such, tells_then}
+use Rattle.job_losses.proofs.Opened.{IsLooking}
 use Rattle.job_refusals.specs.Sighted.{IsSceneBySight}
+use Rattle.job_refusals.proofs.Looking.{sights_looking, ends_looking}
 
 -- the calls of an opening that looked at its drives: the listing of the card, the looks, the moment, and what ended them
 pub record LookedIn (s : Scene) (listed : List FileInfo) (L : List Event) : Type 0 where
@@ -26,6 +28,8 @@ pub record LookedIn (s : Scene) (listed : List FileInfo) (L : List Event) : Type
   pub is : L ≡ SourceList 0 (Some listed) ∷ (looks ++ (asked ++ ends))
   pub sights : SightsCalls 0 s.sights looks
   pub moment : AsksMoment s.plan asked
+  pub on : AllOn IsLooking looks
+  pub behind : AllOn IsLooking ends
 
 module _ (job : Job) (came : Result Order FreshError) (mid late : World) (l : FreshLooks 0 (length job.drives) job.copies (asked_by job.task) came mid late) where
   abbrev Calls : List Event → Type 0
@@ -41,20 +45,24 @@ module _ (job : Job) (came : Result Order FreshError) (mid late : World) (l : Fr
         ∙ ap (λ (k : List Event). SourceList 0 (Some l.card.0) ∷ k) (t.there.is ∙ ap (λ (k : List Event). t.there.first ++ k) t.there.there.is);
     sights = subst (λ (n : ℕ). SightsCalls n l.scene.sights t.there.first) l.from t.there.here;
     moment = t.there.there.here;
+    on = sights_looking l.scene.sights l.scene.first t.there.first t.there.here;
+    behind = ends_looking (l.scene.first + length l.scene.sights) came t.there.there.second t.there.there.there;
   }
 
   pub looked_told : Tells (LookedIn l.scene l.card.0) mid late
   looked_told = tells_such looked_in (tells_then (tells_such (λ L both. both.1) (tells_went l.card.1.called.went)) (tells_such (λ L both. both.1) (tells_went l.went)))
+
+  pub calls_seen : (since opening more : List Event) → since ≡ job_attaches job ++ (opening ++ more) → (t : LookedIn l.scene l.card.0 opening) → since ≡ job_attaches job ++ (SourceList 0 (Some l.card.0) ∷ (t.looks ++ (t.asked ++ (t.ends ++ more))))
+  calls_seen since opening more is t =
+      is ∙ ap (λ (k : List Event). job_attaches job ++ (k ++ more)) t.is
+      ∙ ap (λ (k : List Event). job_attaches job ++ (SourceList 0 (Some l.card.0) ∷ k)) (append_assoc t.looks (t.asked ++ t.ends) more ∙ ap (λ (k : List Event). t.looks ++ k) (append_assoc t.asked t.ends more))
 
   pub scene_seen : (old new : World) (since opening more : List Event) → since ≡ job_attaches job ++ (opening ++ more) → LookedIn l.scene l.card.0 opening → IsSceneBySight (run_with job old new since) l.card.0 l.scene
   scene_seen old new since opening more is t = record {
     looks = t.looks;
     asked = t.asked;
     rest = t.ends ++ more;
-    calls =
-        is ∙ ap (λ (k : List Event). job_attaches job ++ (k ++ more)) t.is
-        ∙ ap (λ (k : List Event). job_attaches job ++ (SourceList 0 (Some l.card.0) ∷ k))
-        (append_assoc t.looks (t.asked ++ t.ends) more ∙ ap (λ (k : List Event). t.looks ++ k) (append_assoc t.asked t.ends more));
+    calls = calls_seen since opening more is t;
     first = l.from;
     few = l.few;
     sights = t.sights;

@@ -57,7 +57,7 @@ module _ (job : Job) (end : JobEnd) (result : ℕ) (past since : List Event) (ol
         let one : opening ≡ SourceList 0 (Some r.listed) ∷ [] = since_then (tells_such (λ L both. both.1) (tells_went r.is.called.went)) (past ++ job_attaches job) opening was now in
         record { listed = r.listed; behind = more; is = is ∙ ap (λ (k : List Event). job_attaches job ++ (k ++ more)) one; late = late; said = r.is }
 
-    failed_unlisted : AreUnlisted more → CardGives 0 (Err SourceFailed) mid late → AreUnlisted since
+    pub failed_unlisted : AreUnlisted more → CardGives 0 (Err SourceFailed) mid late → AreUnlisted since
     failed_unlisted rest g =
         let seen : MaySee (SourceList 0 None) opening = since_then (tells_such (λ L both. both.1) (tells_went g.went)) (past ++ job_attaches job) opening was now in
         subst AreUnlisted (sym is)

@@ -1,2 +1,3 @@
 pub mod First
 pub mod Sighted
+pub mod Mapped

@@ -3,4 +3,4 @@
 
 mod laws;
 
-pub use laws::refusals_are_seen;
+pub use laws::{one_first_refusal, refusals_are_by_the_maps, refusals_are_seen};

@@ -15,6 +15,8 @@ use Rattle.job_ends.specs.Counts.{EndCounts}
 use Rattle.job_ends.specs.Ends.{EndGives, ZeroWhere, FiveWhere}
 use Rattle.job_reads.specs.Backs.{ReadsBack}
 use Rattle.job_reads.specs.Reads.{ReadsOnce}
+use Rattle.job_final.specs.Final.{IsFinal}
+use Rattle.job_refusals.specs.Mapped.{RefusesByMaps}
 use Rattle.job_refusals.specs.Sighted.{RefusesFirst, PassesUnrefused, ListsItsFiles}
 use Rattle.job_losses.specs.Complete.{Completes}
 
@@ -40,7 +42,9 @@ pub record Promises (job : Job) (end : JobEnd) (result : ℕ) (old new : World) 
   pub refused : RefusesFirst (run_with job old new since) end
   pub passed : PassesUnrefused (run_with job old new since)
   pub listing : ListsItsFiles (run_with job old new since) end
+  pub by_maps : RefusesByMaps (run_with job old new since) end
   pub dropped : DropsRightly (run_with job old new since)
+  pub final : IsFinal (run_with job old new since) result
   pub completes : Completes (run_with job old new since) end result
 
 -- A run of a job ended so: the counts show it, over every bay; and where its calls are told they keep its promises.

@@ -13,9 +13,10 @@ use job_ends::{
     all_sealed_only_at_zero, counts_show_the_end, ends_give_lines_and_causes,
     lines_not_said_are_five,
 };
+use job_final::drives_end_final;
 use job_losses::{drops_have_causes, sound_jobs_complete};
 use job_reads::{read_back, read_once};
-use job_refusals::refusals_are_seen;
+use job_refusals::{refusals_are_by_the_maps, refusals_are_seen};
 use job_steps::jobs_keep_to_the_steps;
 use offload_law::announced_steps;
 
@@ -39,6 +40,8 @@ pub fn runs_keep_their_promises()
     all_sealed_only_at_zero();
     lines_not_said_are_five();
     refusals_are_seen();
+    refusals_are_by_the_maps();
+    drives_end_final();
     drops_have_causes();
     sound_jobs_complete();
 }

@@ -33,7 +33,9 @@ returns-clause-others c = λ words result old new run room asked is. elim (way r
             refused = c.refusals_are_seen.ensures.only asked end result old new past since told;
             passed = c.refusals_are_seen.ensures.passed asked end result old new past since told;
             listing = c.refusals_are_seen.ensures.listing asked end result old new past since told;
+            by_maps = c.refusals_are_by_the_maps.ensures asked end result old new past since told;
             dropped = c.drops_have_causes.ensures asked end result old new story is.few past since was now;
+            final = c.drives_end_final.ensures asked end result old new past since told;
             completes = c.sound_jobs_complete.ensures asked end result old new story is.least is.most past since was now;
           };
     })
