@@ -67,6 +67,7 @@ module _ (job : Job) (came : Result Order FreshError) (mid late : World) (l : Fr
     few = l.few;
     sights = t.sights;
     plan = λ p planned. record { files = l.files; inventory = l.card.2; is = (l.drafted p planned).is };
+    late = λ p planned. ((l.drafted p planned).whole, (l.drafted p planned).none_before);
     moment = t.moment;
   }
 
@@ -90,5 +91,6 @@ bare_seen job old new listed since opening more is one = record {
   few = omega arith;
   sights = no_sights;
   plan = λ p planned. absurd (cc planned);
+  late = λ p planned. absurd (cc planned);
   moment = refl;
 }

@@ -10,7 +10,7 @@ use Rattle.fresh_opening.specs.declared.error.FreshError.{FreshError}
 use Rattle.fresh_opening.specs.declared.error.FreshError.TheVariants.{Inventory}
 use Rattle.fresh_opening.specs.Looks.{Reaches}
 use Rattle.fresh_opening.specs.Openings.{AsksMoment}
-use Rattle.fresh_opening.specs.Refusals.{Scene}
+use Rattle.fresh_opening.specs.Refusals.{Scene, NoneBefore}
 use Rattle.fresh_opening.specs.Sights.{SightsCalls}
 use Rattle.job_story.specs.Ends.{JobEnd, Refused, NoMemory}
 use Rattle.job_story.specs.Plans.{IsListed}
@@ -21,7 +21,8 @@ use Rattle.job_refusals.specs.First.{IsDraft, IsFirstRefusal, NothingRefuses}
 -- ---- what the calls saw
 
 -- The first calls of a run: its folders are attached; the card lists this; its drives are looked at, one after another from the first on, each of which comes to what the
--- scene says; and the moment of the plan is asked, where the scene has one. The plan is that of the job and of the listing.
+-- scene says; and the moment of the plan is asked, where the scene has one: not before all drives were looked at, none of which is refused, and one is left. The plan is that of
+-- the job and of the listing.
 pub record IsSceneBySight (run : Run) (listed : List FileInfo) (s : Scene) : Type 0 where
   pub looks : List Event
   pub asked : List Event
@@ -31,6 +32,7 @@ pub record IsSceneBySight (run : Run) (listed : List FileInfo) (s : Scene) : Typ
   pub few : length s.sights ≤ length run.job.drives
   pub sights : SightsCalls 0 s.sights looks
   pub plan : (p : PlanValue) → s.plan ≡ Some p → IsDraft run.job listed p
+  pub late : (p : PlanValue) → s.plan ≡ Some p → (length s.sights ≡ length run.job.drives) × NoneBefore 9 s
   pub moment : AsksMoment s.plan asked
 
 -- How far a run to so many drives came that is refused so: by its card, to no drive and to no plan; by a drive that it looked at, to that drive; else to its last one.

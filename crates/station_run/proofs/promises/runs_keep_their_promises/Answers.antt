@@ -13,7 +13,9 @@ returns-clause-clear c = λ words result old new run room. clear_of c.announced_
 pub returns-clause-others : goal.returns-clause-others
 returns-clause-others c = λ words result old new run room asked is. elim (way run asked is) [
   | short ended ↦ inl ended
-  | ran (end, story) ↦ inr (end, record {
+  | ran (end, story) ↦ inr (
+    end,
+    record {
       counts = c.counts_show_the_end.ensures (run_with asked old new []) end result story (none_there room asked is).0 (none_there room asked is).1;
       told = λ past since was now.
           let none = none_there room asked is in
@@ -38,5 +40,6 @@ returns-clause-others c = λ words result old new run room asked is. elim (way r
             final = c.drives_end_final.ensures asked end result old new past since told;
             completes = c.sound_jobs_complete.ensures asked end result old new story is.least is.most past since was now;
           };
-    })
+    },
+  )
 ]
