@@ -1,26 +1,28 @@
 ghost use Rattle.std.specs.Prelude.{◌≡◌, ◌<◌, IfOk};
 ghost use Rattle.bay_mem.specs.State.{world_of};
 
-use bay_core::{Bay, DriveGot, Event, Failed, FileInfo};
+use crate::steps::Change::{Remove, Rename, Sync, Write};
+use crate::steps::OnCard::{CardList, CardRead};
+use crate::steps::OnDrive::{Changed, DriveList, DriveRead};
+use crate::steps::Setting::{Clock, CutReads, FailCall, Flip, ListAs, Picks, Place, Source};
+use crate::steps::Step::{Card, Drive, Moment, OnCard, OnDrive, Pick, Say, Set, Told};
+use crate::steps::{Change, Files, Step, kind, make, map_of, play};
+use bay_core::{Bay, Failed};
 use bay_mem::{MemBay, MemMap};
 use std::alloc::{AllocError, Global};
 use std::process::Abort;
 use std::test::Fail;
 
+const NO_FILES: Files = &[];
+
 const NO_NUMBERS: &[u32] = &[];
 
-const NO_FILES: &[(&str, &str)] = &[];
+// The drive place D, which has `a` = abc, and the card place C, which has `a` = abcde and `b` = x.
+const D: Step = Set(Place("D", &[("a", "abc")]));
 
-// The files of a map.
-fn map_of(alloc: Global, files: &[(&str, &str)]) -> Result<MemMap, AllocError> {
-    let mut map = MemMap::new(alloc);
-    for (path, bytes) in files {
-        map.add(path, bytes.as_bytes(), 100)?;
-    }
-    Ok(map)
-}
+const C: Step = Set(Source("C", &[("b", "x"), ("a", "abcde")]));
 
-// A bay with the drive place D, which has `a` = abc, and the card place C, which has `a` = abcde and `b` = x.
+// A bay with these two places.
 fn two_places(alloc: Global) -> Result<MemBay, AllocError>
     ensures drives { IfOk result (λ bay. (world_of bay.seen).attached.drives ≡ 0) }
     ensures cards { IfOk result (λ bay. (world_of bay.seen).attached.sources ≡ 0) }
@@ -52,48 +54,6 @@ fn expect_files(rt: &impl Abort, map: &MemMap, files: &[(&str, &str)]) {
     }
 }
 
-// The paths, sizes and dates of a listing.
-fn listed(alloc: Global, files: &[FileInfo]) -> Result<String, AllocError> {
-    let mut text = String::new(alloc);
-    for file in files {
-        let path = file.path.as_str();
-        let line = format!(in alloc; "{path} {} {};", file.size, file.modified)?;
-        text.push_str(&line)?;
-    }
-    Ok(text)
-}
-
-// The kind of a call, and whether it failed.
-fn kind(event: &Event) -> (&'static str, bool) {
-    match event {
-        Event::AttachSource { .. } => ("AttachSource", false),
-        Event::AttachDrive { .. } => ("AttachDrive", false),
-        Event::AttachFailed { .. } => ("Attach", true),
-        Event::SourceList { got, .. } => ("SourceList", got.is_none()),
-        Event::SourceRead { got, .. } => ("SourceRead", got.is_none()),
-        Event::DriveList { got, .. } => ("DriveList", got.is_none()),
-        Event::DriveRead { got, .. } => ("DriveRead", matches!(got, DriveGot::Failed)),
-        Event::Write { ok, .. } => ("Write", !*ok),
-        Event::Sync { ok, .. } => ("Sync", !*ok),
-        Event::Rename { ok, .. } => ("Rename", !*ok),
-        Event::Remove { ok, .. } => ("Remove", !*ok),
-        Event::Moment { .. } => ("Moment", false),
-        Event::Pick { .. } => ("Pick", false),
-        Event::Say { ok, .. } => ("Say", !*ok),
-    }
-}
-
-// The kinds of the calls of a bay in their order, each that failed with a mark.
-fn kinds(alloc: Global, bay: &MemBay) -> Result<String, AllocError> {
-    let mut text = String::new(alloc);
-    for event in bay.events() {
-        let (name, failed) = kind(event);
-        text.push_str(name)?;
-        text.push_str(if failed { "! " } else { " " })?;
-    }
-    Ok(text)
-}
-
 #[test]
 fn files_are_kept_by_path(rt: HostRuntime) -> Result<(), Fail> {
     let alloc = rt.alloc();
@@ -105,147 +65,115 @@ fn files_are_kept_by_path(rt: HostRuntime) -> Result<(), Fail> {
     Ok(())
 }
 
-// What is done to drive 0 before it stops.
-#[derive(Clone, Copy)]
-enum Change {
-    // The bytes XY at 1 of `a`.
-    Write,
-    Sync,
-    RemoveA,
-    RemoveZ,
-    // `a` to `b`.
-    Rename,
-}
+// The bytes XY at 1 of `a`.
+const XY: Change = Write("a", 1, b"XY");
 
-fn make(bay: &mut MemBay, change: Change) -> Result<(), Failed>
-    requires { 0 < (world_of bay.old.seen).attached.drives }
-    ensures { 0 < (world_of bay.new.seen).attached.drives }
-{
-    match change {
-        Change::Write => bay.write(0, "a", 1, b"XY"),
-        Change::Sync => bay.sync(0),
-        Change::RemoveA => bay.remove(0, "a"),
-        Change::RemoveZ => bay.remove(0, "z"),
-        Change::Rename => bay.rename(0, "a", "b"),
-    }
-}
+const A_TO_B: Change = Rename("a", "b");
 
 // What a stop leaves of the drive after these changes and the first `upto` calls, of which the attach is one.
 fn left(alloc: Global, changes: &[Change], upto: usize, choice: &[u32]) -> Result<MemMap, Fail> {
     let mut bay = one_drive(alloc)?;
     for change in changes {
-        make(&mut bay, *change)?;
+        make(&mut bay, 0, change)?;
     }
     Ok(bay.image(0, upto, choice)?)
 }
 
+const CHOICES: &[(&[Change], &[u32], Files)] = &[
+    (&[XY], &[0], &[("a", "abc")]),
+    (&[XY], NO_NUMBERS, &[("a", "abc")]),
+    (&[XY], &[1], &[("a", "aXY")]),
+    (&[XY], &[23], &[("a", "a\u{7}\u{7}")]),
+    (&[XY, Sync], NO_NUMBERS, &[("a", "aXY")]),
+    (&[XY, Sync], &[0], &[("a", "aXY")]),
+    (&[XY, Sync], &[1], &[("a", "aXY")]),
+    (&[XY, Sync], &[23], &[("a", "aXY")]),
+    (&[Remove("a"), Remove("z")], &[0, 1], &[("a", "abc")]),
+    (&[Remove("a"), Remove("z")], &[1, 1], NO_FILES),
+    (&[A_TO_B], &[0], &[("a", "abc")]),
+    (&[A_TO_B], &[1], &[("b", "abc")]),
+    (&[A_TO_B], &[2], &[("a", "abc"), ("b", "abc")]),
+    (&[A_TO_B, Sync], &[2], &[("b", "abc")]),
+];
+
 #[test]
 fn a_stop_leaves_what_was_chosen(rt: HostRuntime) -> Result<(), Fail> {
-    let abc = ("a", "abc");
-    let renamed = ("b", "abc");
-    let written = ("a", "aXY");
-    let rows: [(&[Change], &[u32], &[(&str, &str)]); 14] = [
-        (&[Change::Write], &[0], &[abc]),
-        (&[Change::Write], NO_NUMBERS, &[abc]),
-        (&[Change::Write], &[1], &[written]),
-        (&[Change::Write], &[23], &[("a", "a\u{7}\u{7}")]),
-        (&[Change::Write, Change::Sync], NO_NUMBERS, &[written]),
-        (&[Change::Write, Change::Sync], &[0], &[written]),
-        (&[Change::Write, Change::Sync], &[1], &[written]),
-        (&[Change::Write, Change::Sync], &[23], &[written]),
-        (&[Change::RemoveA, Change::RemoveZ], &[0, 1], &[abc]),
-        (&[Change::RemoveA, Change::RemoveZ], &[1, 1], NO_FILES),
-        (&[Change::Rename], &[0], &[abc]),
-        (&[Change::Rename], &[1], &[renamed]),
-        (&[Change::Rename], &[2], &[abc, renamed]),
-        (&[Change::Rename, Change::Sync], &[2], &[renamed]),
-    ];
-    for (changes, choice, files) in rows {
+    for (changes, choice, files) in CHOICES {
         let map = left(rt.alloc(), changes, usize::MAX, choice)?;
         expect_files(&rt, &map, files);
     }
     Ok(())
 }
 
+const STOPS: &[(usize, Files)] = &[
+    (0, &[("a", "abc")]),
+    (1, &[("a", "abc")]),
+    (2, &[("a", "aXY")]),
+    (3, &[("b", "aXY")]),
+    (4, &[("b", "aXY")]),
+    (usize::MAX, &[("b", "aXY")]),
+];
+
 #[test]
 fn a_stop_comes_after_some_calls(rt: HostRuntime) -> Result<(), Fail> {
-    let changes = [Change::Write, Change::Rename];
-    let rows = [
-        (0, ("a", "abc")),
-        (1, ("a", "abc")),
-        (2, ("a", "aXY")),
-        (3, ("b", "aXY")),
-        (4, ("b", "aXY")),
-        (usize::MAX, ("b", "aXY")),
-    ];
-    for (upto, file) in rows {
-        let map = left(rt.alloc(), &changes, upto, &[1, 1])?;
-        expect_files(&rt, &map, &[file]);
+    for (upto, files) in STOPS {
+        let map = left(rt.alloc(), &[XY, A_TO_B], *upto, &[1, 1])?;
+        expect_files(&rt, &map, files);
     }
     Ok(())
 }
 
+const CARDS_AND_DRIVES_ARE_READ: &[Step] = &[
+    D,
+    C,
+    Card("C", Ok(0)),
+    Drive("D", Ok(0)),
+    OnCard(0, CardList("a 5 100;b 1 100;")),
+    OnCard(0, CardRead("a", 2, Ok(3), b"cde\x07")),
+    OnDrive(0, DriveList("a 3 100;")),
+    OnDrive(0, DriveRead("a", 1, Ok(Some(2)), b"bc\x07\x07")),
+    OnDrive(0, DriveRead("b", 1, Ok(None), &[7; 4])),
+    Told(
+        7,
+        "AttachSource AttachDrive SourceList SourceRead DriveList DriveRead DriveRead ",
+    ),
+];
+
 #[test]
 fn cards_and_drives_are_read(rt: HostRuntime) -> Result<(), Fail> {
-    let alloc = rt.alloc();
-    let mut bay = two_places(alloc)?;
-    let s = bay.attach_source("C")?;
-    let d = bay.attach_drive("D")?;
-    assert_eq!(rt; (s, d), (0, 0));
-    let on_card = bay.source_list(alloc, s)?;
-    assert_eq!(rt; listed(alloc, &on_card)?.as_str(), "a 5 100;b 1 100;");
-    let mut into = [0; 4];
-    assert_eq!(rt; bay.source_read(s, "a", 2, &mut into), Ok(3));
-    assert_eq!(rt; into, *b"cde\0");
-    let on_drive = bay.drive_list(alloc, d)?;
-    assert_eq!(rt; listed(alloc, &on_drive)?.as_str(), "a 3 100;");
-    assert_eq!(rt; bay.drive_read(d, "a", 1, &mut into), Ok(Some(2)));
-    assert_eq!(rt; into, *b"bce\0");
-    assert_eq!(rt; bay.drive_read(d, "b", 1, &mut into), Ok(None));
-    assert_eq!(rt; bay.events().len(), 7);
-    assert_eq!(rt;
-        kinds(alloc, &bay)?.as_str(),
-        "AttachSource AttachDrive SourceList SourceRead DriveList DriveRead DriveRead "
-    );
-    assert_eq!(rt; bay.refused(), 0);
-    Ok(())
+    play(&rt, rt.alloc(), CARDS_AND_DRIVES_ARE_READ)
 }
+
+const A_DRIVE_IS_CHANGED: &[Step] = &[
+    D,
+    C,
+    Drive("D", Ok(0)),
+    Set(Clock(1_414_152_000)),
+    OnDrive(0, Changed(Write("n/b", 1, b"XY"), Ok(()))),
+    OnDrive(0, Changed(Sync, Ok(()))),
+    OnDrive(0, Changed(Rename("n/b", "c"), Ok(()))),
+    OnDrive(0, Changed(Remove("a"), Ok(()))),
+    Told(5, "AttachDrive Write Sync Rename Remove "),
+    OnDrive(0, DriveList("c 3 1414152000;")),
+    OnDrive(0, DriveRead("c", 0, Ok(Some(3)), b"\0XY\x07")),
+];
 
 #[test]
 fn a_drive_is_changed(rt: HostRuntime) -> Result<(), Fail> {
-    let alloc = rt.alloc();
-    let mut bay = one_drive(alloc)?;
-    bay.clock(1_414_152_000);
-    assert_eq!(rt; bay.write(0, "n/b", 1, b"XY"), Ok(()));
-    assert_eq!(rt; bay.sync(0), Ok(()));
-    assert_eq!(rt; bay.rename(0, "n/b", "c"), Ok(()));
-    assert_eq!(rt; bay.remove(0, "a"), Ok(()));
-    assert_eq!(rt; bay.events().len(), 5);
-    assert_eq!(rt;
-        kinds(alloc, &bay)?.as_str(),
-        "AttachDrive Write Sync Rename Remove "
-    );
-    let files = bay.drive_list(alloc, 0)?;
-    assert_eq!(rt; listed(alloc, &files)?.as_str(), "c 3 1414152000;");
-    let mut into = [7; 4];
-    assert_eq!(rt; bay.drive_read(0, "c", 0, &mut into), Ok(Some(3)));
-    assert_eq!(rt; into, *b"\0XY\x07");
-    assert_eq!(rt; bay.refused(), 0);
-    Ok(())
+    play(&rt, rt.alloc(), A_DRIVE_IS_CHANGED)
 }
+
+const OTHER_CALLS_ARE_ANSWERED: &[Step] = &[
+    Set(Clock(1_414_152_000)),
+    Moment(1_414_152_000),
+    Pick(0),
+    Say(b"hi", Ok(())),
+    Told(3, "Moment Pick Say "),
+];
 
 #[test]
 fn other_calls_are_answered(rt: HostRuntime) -> Result<(), Fail> {
-    let alloc = rt.alloc();
-    let mut bay = MemBay::new(alloc);
-    bay.clock(1_414_152_000);
-    assert_eq!(rt; bay.moment(), 1_414_152_000);
-    assert_eq!(rt; bay.pick(), 0);
-    assert_eq!(rt; bay.say(b"hi"), Ok(()));
-    assert_eq!(rt; bay.events().len(), 3);
-    assert_eq!(rt; kinds(alloc, &bay)?.as_str(), "Moment Pick Say ");
-    assert_eq!(rt; bay.refused(), 0);
-    Ok(())
+    play(&rt, rt.alloc(), OTHER_CALLS_ARE_ANSWERED)
 }
 
 // One call of each kind, up to the first that fails. Those of the clock and the picker cannot fail.
@@ -273,9 +201,29 @@ fn run(alloc: Global, bay: &mut MemBay) -> Result<(), Failed>
     bay.say(b"hi")
 }
 
+// A run fails at its n-th call that can fail: so many calls are told before it, and it is of this kind.
+fn expect_failed(
+    rt: &impl Abort,
+    alloc: Global,
+    n: u64,
+    count: usize,
+    name: &str,
+) -> Result<(), Fail> {
+    let mut bay = two_places(alloc)?;
+    bay.fail_call(n)?;
+    assert_eq!(rt; run(alloc, &mut bay), Err(Failed), "{n}");
+    let Some((last, before)) = bay.events().split_last() else {
+        panic!(rt; "no call of {n}");
+    };
+    assert_eq!(rt; kind(last), (name, true));
+    assert_eq!(rt; before.len(), count);
+    assert!(rt; before.iter().all(|event| !kind(event).1), "{n}");
+    assert_eq!(rt; bay.refused(), 0);
+    Ok(())
+}
+
 #[test]
 fn calls_fail_by_number(rt: HostRuntime) -> Result<(), Fail> {
-    let alloc = rt.alloc();
     // The number of the call that is to fail, how many calls are told before it, and its kind.
     let rows = [
         (1, 0, "Attach"),
@@ -291,214 +239,209 @@ fn calls_fail_by_number(rt: HostRuntime) -> Result<(), Fail> {
         (11, 12, "Say"),
     ];
     for (n, count, name) in rows {
-        let mut bay = two_places(alloc)?;
-        bay.fail_call(n)?;
-        assert_eq!(rt; run(alloc, &mut bay), Err(Failed), "{n}");
-        let Some((last, before)) = bay.events().split_last() else {
-            panic!(rt; "no call of {n}");
-        };
-        assert_eq!(rt; kind(last), (name, true));
-        assert_eq!(rt; before.len(), count);
-        assert!(rt; before.iter().all(|event| !kind(event).1), "{n}");
-        assert_eq!(rt; bay.refused(), 0);
+        expect_failed(&rt, rt.alloc(), n, count, name)?;
     }
     Ok(())
 }
+
+const LATER_CALLS_FAIL_BY_NUMBER: &[Step] = &[
+    D,
+    C,
+    Set(FailCall(12)),
+    Set(FailCall(13)),
+    Card("C", Ok(0)),
+    Moment(0),
+    Drive("D", Ok(0)),
+    Pick(0),
+    OnCard(0, CardList("a 5 100;b 1 100;")),
+    OnCard(0, CardRead("a", 0, Ok(4), b"abcd")),
+    OnDrive(0, DriveList("a 3 100;")),
+    OnDrive(0, DriveRead("a", 0, Ok(Some(3)), b"abc\x07")),
+    OnDrive(0, Changed(Write("b", 0, b"XY"), Ok(()))),
+    OnDrive(0, Changed(Sync, Ok(()))),
+    OnDrive(0, Changed(Rename("b", "c"), Ok(()))),
+    OnDrive(0, Changed(Remove("c"), Ok(()))),
+    Say(b"hi", Ok(())),
+    Told(
+        13,
+        "AttachSource Moment AttachDrive Pick SourceList SourceRead DriveList DriveRead Write Sync Rename Remove Say ",
+    ),
+    Say(b"hi", Err(Failed)),
+    Say(b"hi", Err(Failed)),
+    Say(b"hi", Ok(())),
+    Told(
+        16,
+        "AttachSource Moment AttachDrive Pick SourceList SourceRead DriveList DriveRead Write Sync Rename Remove Say Say! Say! Say ",
+    ),
+];
 
 #[test]
 fn later_calls_fail_by_number(rt: HostRuntime) -> Result<(), Fail> {
-    let alloc = rt.alloc();
-    let mut bay = two_places(alloc)?;
-    bay.fail_call(12)?;
-    bay.fail_call(13)?;
-    assert_eq!(rt; run(alloc, &mut bay), Ok(()));
-    assert_eq!(rt; bay.events().len(), 13);
-    for wanted in [Err(Failed), Err(Failed), Ok(())] {
-        assert_eq!(rt; bay.say(b"hi"), wanted);
-    }
-    assert_eq!(rt; bay.events().len(), 16);
-    assert_eq!(rt; bay.refused(), 0);
-    Ok(())
+    play(&rt, rt.alloc(), LATER_CALLS_FAIL_BY_NUMBER)
 }
+
+const READS_ARE_CUT: &[Step] = &[
+    D,
+    C,
+    Card("C", Ok(0)),
+    Drive("C", Ok(0)),
+    Set(CutReads(2)),
+    OnCard(0, CardRead("a", 0, Ok(2), b"ab\x07\x07\x07")),
+    OnDrive(0, DriveRead("a", 0, Ok(Some(2)), b"ab\x07\x07\x07")),
+    OnCard(0, CardRead("a", 2, Ok(2), b"cd\x07\x07\x07")),
+    OnDrive(0, DriveRead("a", 2, Ok(Some(2)), b"cd\x07\x07\x07")),
+    OnCard(0, CardRead("a", 4, Ok(1), b"e\x07\x07\x07\x07")),
+    OnDrive(0, DriveRead("a", 4, Ok(Some(1)), b"e\x07\x07\x07\x07")),
+    OnCard(0, CardRead("a", 5, Ok(0), &[7; 5])),
+    OnDrive(0, DriveRead("a", 5, Ok(Some(0)), &[7; 5])),
+    OnCard(0, CardRead("a", 6, Ok(0), &[7; 5])),
+    OnDrive(0, DriveRead("a", 6, Ok(Some(0)), &[7; 5])),
+];
 
 #[test]
 fn reads_are_cut(rt: HostRuntime) -> Result<(), Fail> {
-    let alloc = rt.alloc();
-    for (at, n, bytes) in [
-        (0, 2, "ab"),
-        (2, 2, "cd"),
-        (4, 1, "e"),
-        (5, 0, ""),
-        (6, 0, ""),
-    ] {
-        let mut bay = two_places(alloc)?;
-        let s = bay.attach_source("C")?;
-        let d = bay.attach_drive("C")?;
-        bay.cut_reads(2);
-        let mut into = [0; 5];
-        assert_eq!(rt; bay.source_read(s, "a", at, &mut into), Ok(n), "at {at}");
-        assert!(rt; into.starts_with(bytes.as_bytes()), "at {at}");
-        let mut into = [0; 5];
-        assert_eq!(rt;
-            bay.drive_read(d, "a", at, &mut into),
-            Ok(Some(n)),
-            "at {at}"
-        );
-        assert!(rt; into.starts_with(bytes.as_bytes()), "at {at}");
-        assert_eq!(rt; bay.refused(), 0);
-    }
-    Ok(())
+    play(&rt, rt.alloc(), READS_ARE_CUT)
 }
+
+const PICKS_GO_ROUND: &[Step] = &[
+    Pick(0),
+    Set(Picks(&[3, 5])),
+    Pick(3),
+    Pick(5),
+    Pick(3),
+    Pick(5),
+    Pick(3),
+    Set(Picks(&[8])),
+    Pick(8),
+    Pick(8),
+    Set(Picks(NO_NUMBERS)),
+    Pick(0),
+    Pick(0),
+];
 
 #[test]
 fn picks_go_round(rt: HostRuntime) -> Result<(), Fail> {
-    let alloc = rt.alloc();
-    let mut bay = MemBay::new(alloc);
-    assert_eq!(rt; bay.pick(), 0);
-    bay.picks(vec![in alloc; 3, 5]?);
-    for n in [3, 5, 3, 5, 3] {
-        assert_eq!(rt; bay.pick(), n);
-    }
-    bay.picks(vec![in alloc; 8]?);
-    for n in [8, 8] {
-        assert_eq!(rt; bay.pick(), n);
-    }
-    bay.picks(Vec::new(alloc));
-    for n in [0, 0] {
-        assert_eq!(rt; bay.pick(), n);
-    }
-    assert_eq!(rt; bay.refused(), 0);
-    Ok(())
+    play(&rt, rt.alloc(), PICKS_GO_ROUND)
 }
+
+const THE_CLOCK_IS_SET: &[Step] = &[
+    Moment(0),
+    Set(Clock(253_402_300_799)),
+    Moment(253_402_300_799),
+    Moment(253_402_300_799),
+];
 
 #[test]
-fn the_clock_is_set(rt: HostRuntime) {
-    let mut bay = MemBay::new(rt.alloc());
-    assert_eq!(rt; bay.moment(), 0);
-    bay.clock(253_402_300_799);
-    for t in [253_402_300_799, 253_402_300_799] {
-        assert_eq!(rt; bay.moment(), t);
-    }
-    assert_eq!(rt; bay.refused(), 0);
+fn the_clock_is_set(rt: HostRuntime) -> Result<(), Fail> {
+    play(&rt, rt.alloc(), THE_CLOCK_IS_SET)
 }
 
-// Fails unless the file `a` of a drive reads so.
-fn expect_a(rt: &impl Abort, bay: &mut MemBay, d: u32, bytes: &str)
-    requires { d < (world_of bay.old.seen).attached.drives }
-    ensures { (world_of bay.new.seen).attached ≡ (world_of bay.old.seen).attached }
-{
-    let mut into = [0; 8];
-    assert_eq!(rt; bay.drive_read(d, "a", 0, &mut into), Ok(Some(bytes.len())));
-    assert!(rt; into.starts_with(bytes.as_bytes()), "{bytes}");
-}
+const A_PLACE_IS_ATTACHED_AGAIN: &[Step] = &[
+    D,
+    C,
+    Drive("D", Ok(0)),
+    Drive("D", Ok(1)),
+    OnDrive(1, DriveRead("a", 0, Ok(Some(3)), b"abc\x07")),
+    OnDrive(1, Changed(Write("a", 1, b"XY"), Ok(()))),
+    Drive("D", Ok(2)),
+    OnDrive(2, DriveRead("a", 0, Ok(Some(3)), b"aXY\x07")),
+    OnDrive(2, Changed(Write("a", 0, b"Z"), Ok(()))),
+    OnDrive(0, DriveRead("a", 0, Ok(Some(3)), b"abc\x07")),
+    OnDrive(1, DriveRead("a", 0, Ok(Some(3)), b"aXY\x07")),
+    OnDrive(2, DriveRead("a", 0, Ok(Some(3)), b"ZXY\x07")),
+];
 
 #[test]
 fn a_place_is_attached_again(rt: HostRuntime) -> Result<(), Fail> {
-    let alloc = rt.alloc();
-    let mut bay = two_places(alloc)?;
-    let first = bay.attach_drive("D")?;
-    let second = bay.attach_drive("D")?;
-    assert_eq!(rt; (first, second), (0, 1));
-    expect_a(&rt, &mut bay, second, "abc");
-    bay.write(second, "a", 1, b"XY")?;
-    let third = bay.attach_drive("D")?;
-    expect_a(&rt, &mut bay, third, "aXY");
-    bay.write(third, "a", 0, b"Z")?;
-    expect_a(&rt, &mut bay, first, "abc");
-    expect_a(&rt, &mut bay, second, "aXY");
-    expect_a(&rt, &mut bay, third, "ZXY");
-    assert_eq!(rt; bay.refused(), 0);
-    Ok(())
+    play(&rt, rt.alloc(), A_PLACE_IS_ATTACHED_AGAIN)
 }
+
+const CARDS_AND_DRIVES_SHARE_THEIR_PLACES: &[Step] = &[
+    D,
+    C,
+    Set(Place("C", &[("a", "later")])),
+    Drive("C", Ok(0)),
+    OnDrive(0, DriveRead("a", 0, Ok(Some(5)), b"later\x07\x07\x07")),
+    OnDrive(0, Changed(Write("a", 3, b"XYZ"), Ok(()))),
+    Set(Source("C", &[("a", "last")])),
+    Card("C", Ok(0)),
+    OnCard(0, CardRead("a", 0, Ok(6), b"latXYZ\x07\x07")),
+];
 
 #[test]
 fn cards_and_drives_share_their_places(rt: HostRuntime) -> Result<(), Fail> {
-    let alloc = rt.alloc();
-    let mut bay = two_places(alloc)?;
-    bay.add_drive("C", map_of(alloc, &[("a", "later")])?)?;
-    let d = bay.attach_drive("C")?;
-    expect_a(&rt, &mut bay, d, "later");
-    bay.write(d, "a", 3, b"XYZ")?;
-    bay.add_source("C", map_of(alloc, &[("a", "last")])?)?;
-    let s = bay.attach_source("C")?;
-    let mut into = [0; 8];
-    assert_eq!(rt; bay.source_read(s, "a", 0, &mut into), Ok(6));
-    assert_eq!(rt; into, *b"latXYZ\0\0");
-    assert_eq!(rt; bay.refused(), 0);
-    Ok(())
+    play(&rt, rt.alloc(), CARDS_AND_DRIVES_SHARE_THEIR_PLACES)
 }
+
+const A_FLIPPED_BYTE_IS_SHOWN: &[Step] = &[
+    // b is 0x62 and c is 0x63.
+    D,
+    C,
+    Set(Flip(0, "a", 1)),
+    Drive("C", Ok(0)),
+    OnDrive(0, DriveRead("a", 0, Ok(Some(5)), b"accde")),
+    OnDrive(0, DriveRead("a", 1, Ok(Some(4)), b"ccde\x07")),
+    OnDrive(0, DriveRead("a", 2, Ok(Some(3)), b"cde\x07\x07")),
+    OnDrive(0, DriveRead("b", 0, Ok(Some(1)), b"x\x07\x07\x07\x07")),
+];
 
 #[test]
 fn a_flipped_byte_is_shown(rt: HostRuntime) -> Result<(), Fail> {
-    let alloc = rt.alloc();
-    // b is 0x62 and c is 0x63.
-    let rows = [
-        ("a", 0, 5, "accde"),
-        ("a", 1, 4, "ccde"),
-        ("a", 2, 3, "cde"),
-        ("b", 0, 1, "x"),
-    ];
-    for (path, at, n, bytes) in rows {
-        let mut bay = two_places(alloc)?;
-        bay.flip(0, "a", 1)?;
-        let d = bay.attach_drive("C")?;
-        let mut into = [0; 5];
-        assert_eq!(rt; bay.drive_read(d, path, at, &mut into), Ok(Some(n)));
-        assert!(rt; into.starts_with(bytes.as_bytes()), "{path} at {at}");
-        assert_eq!(rt; bay.refused(), 0);
-    }
-    Ok(())
+    play(&rt, rt.alloc(), A_FLIPPED_BYTE_IS_SHOWN)
 }
+
+const A_CARD_LISTS_ANOTHER_SIZE: &[Step] = &[
+    D,
+    C,
+    Set(ListAs(0, "a", 9)),
+    Card("C", Ok(0)),
+    Card("C", Ok(1)),
+    OnCard(0, CardList("a 9 100;b 1 100;")),
+    OnCard(1, CardList("a 5 100;b 1 100;")),
+];
 
 #[test]
 fn a_card_lists_another_size(rt: HostRuntime) -> Result<(), Fail> {
-    let alloc = rt.alloc();
-    let mut bay = two_places(alloc)?;
-    bay.list_as(0, "a", 9)?;
-    let told = bay.attach_source("C")?;
-    let true_one = bay.attach_source("C")?;
-    let files = bay.source_list(alloc, told)?;
-    assert_eq!(rt; listed(alloc, &files)?.as_str(), "a 9 100;b 1 100;");
-    let files = bay.source_list(alloc, true_one)?;
-    assert_eq!(rt; listed(alloc, &files)?.as_str(), "a 5 100;b 1 100;");
-    assert_eq!(rt; bay.refused(), 0);
-    Ok(())
+    play(&rt, rt.alloc(), A_CARD_LISTS_ANOTHER_SIZE)
 }
+
+const ABSENT_PLACES_FAIL: &[Step] = &[
+    D,
+    C,
+    Card("E", Err(Failed)),
+    Drive("E", Err(Failed)),
+    Told(2, "Attach! Attach! "),
+];
 
 #[test]
 fn absent_places_fail(rt: HostRuntime) -> Result<(), Fail> {
-    let alloc = rt.alloc();
-    let mut bay = two_places(alloc)?;
-    assert_eq!(rt; bay.attach_source("E"), Err(Failed));
-    assert_eq!(rt; bay.attach_drive("E"), Err(Failed));
-    assert_eq!(rt; kinds(alloc, &bay)?.as_str(), "Attach! Attach! ");
-    assert_eq!(rt; bay.refused(), 0);
-    Ok(())
+    play(&rt, rt.alloc(), ABSENT_PLACES_FAIL)
 }
+
+const ABSENT_FILES_OF_A_CARD_FAIL: &[Step] = &[
+    D,
+    C,
+    Card("C", Ok(0)),
+    OnCard(0, CardRead("z", 0, Err(Failed), &[7; 4])),
+    Told(2, "AttachSource SourceRead! "),
+];
 
 #[test]
 fn absent_files_of_a_card_fail(rt: HostRuntime) -> Result<(), Fail> {
-    let alloc = rt.alloc();
-    let mut bay = two_places(alloc)?;
-    let s = bay.attach_source("C")?;
-    let mut into = [0; 4];
-    assert_eq!(rt; bay.source_read(s, "z", 0, &mut into), Err(Failed));
-    assert_eq!(rt; kinds(alloc, &bay)?.as_str(), "AttachSource SourceRead! ");
-    assert_eq!(rt; bay.refused(), 0);
-    Ok(())
+    play(&rt, rt.alloc(), ABSENT_FILES_OF_A_CARD_FAIL)
 }
+
+const ABSENT_FILES_OF_A_DRIVE_FAIL_TO_BE_RENAMED: &[Step] = &[
+    D,
+    C,
+    Drive("D", Ok(0)),
+    OnDrive(0, Changed(Remove("z"), Ok(()))),
+    OnDrive(0, Changed(Rename("z", "a"), Err(Failed))),
+    OnDrive(0, DriveRead("a", 0, Ok(Some(3)), b"abc\x07")),
+    Told(4, "AttachDrive Remove Rename! DriveRead "),
+];
 
 #[test]
 fn absent_files_of_a_drive_fail_to_be_renamed(rt: HostRuntime) -> Result<(), Fail> {
-    let alloc = rt.alloc();
-    let mut bay = one_drive(alloc)?;
-    assert_eq!(rt; bay.remove(0, "z"), Ok(()));
-    assert_eq!(rt; bay.rename(0, "z", "a"), Err(Failed));
-    expect_a(&rt, &mut bay, 0, "abc");
-    assert_eq!(rt;
-        kinds(alloc, &bay)?.as_str(),
-        "AttachDrive Remove Rename! DriveRead "
-    );
-    assert_eq!(rt; bay.refused(), 0);
-    Ok(())
+    play(&rt, rt.alloc(), ABSENT_FILES_OF_A_DRIVE_FAIL_TO_BE_RENAMED)
 }
