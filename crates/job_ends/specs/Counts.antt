@@ -1,4 +1,4 @@
--- What the counts and the numbers of devices show of the end of a run of a job, over bays that tell no calls too: docs/MODEL.md, "The end of a run of a job".
+-- What the counts and the numbers of devices show of the end of a run of a job, over bays that tell no calls too: docs/MODEL.md, "Laws of a run of a job".
 use Rattle.std.specs.Prelude.{◌≡◌, ◌≢◌, ℕ, ◌<◌, length}
 use Rattle.bay_core.specs.Replay.{Device, Source, Attaching, Output}
 use Rattle.bay_core.specs.World.{Rose}

@@ -47,8 +47,8 @@ pub record HasOtherLength (run : Run) (listed read : ℕ) (path : List ℕ) : Ty
   pub gave : length (card_given 0 path run.events) ≡ read
   pub ends : ((read < listed) × EndsEarly 0 path read (reads_of 0 path run.events)) ⊎ ((read ≡ listed + 1) × EndsLate 0 path listed (reads_of 0 path run.events))
 
--- What is so of a run that ended so, where its calls are told. A run that attached all its folders and came to its end said all its words; every other said some of them,
--- and the lines of its end. One that was refused, that could not attach a folder, or that wanted memory changed and settled no drive.
+-- What is so of a run that ended so, where its calls are told. A run that came to its end said all its words; one a line of which was not said, some of them or all; and
+-- every other some of them, and then the lines of its end. One that was refused, that could not attach a folder, or that wanted memory changed and settled no drive.
 abbrev pub EndGives : Run → JobEnd → ℕ → Type 0
 EndGives run Sealed result = SaysAll run × AllSealed run × (result ≡ 0)
 EndGives run Dropped result = SaysAll run × SomeDropped run × (result ≡ 1)

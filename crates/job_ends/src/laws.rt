@@ -38,10 +38,11 @@ pub fn counts_show_the_end()
 
 /// Each end of a run has its lines, its status and its cause. A run that came to its end has said of each drive all its words, or a
 /// first part of them and a loss, round by round and in a round drive by drive, then `clear` just where it is due, and no other
-/// line; every drive has its line `sealed` and the status is 0, or one has a line `dropped` and it is 1. Any other run has said some
-/// of its words, and then the last lines of its end, as far as they could be said, and no other line. A refused run, one that
-/// could not attach a folder, and one that wanted memory changed and settled no drive. A run that ended by a file of another length
-/// has read that length of a planned file, and its card is not steady.
+/// line; every drive has its line `sealed` and the status is 0, or one has a line `dropped` and it is 1. A run of whose words a line
+/// was not said has said some of them, or all, and no other line, and the status is 5. Any other run has said some of its words,
+/// and then the last lines of its end, as far as they could be said, and no other line. A refused run, one that could not attach a
+/// folder, and one that wanted memory changed and settled no drive. A run that ended by a file of another length has read that
+/// length of a planned file, and its card is not steady.
 ///
 /// A job has at least one drive, and requires one sealed drive at least.
 pub fn ends_give_lines_and_causes()

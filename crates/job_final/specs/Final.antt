@@ -1,4 +1,4 @@
--- What a run of a job leaves on its drives where it came to its end: docs/MODEL.md, "The final map of a run of a job".
+-- What a run of a job leaves on its drives where it came to its end: docs/MODEL.md, "Laws of a run of a job".
 use Rattle.std.specs.Prelude.{◌≡◌, ◌⊎◌, ℕ, true, List, ◌∷◌, ◌++◌, length, Some, None}
 use Rattle.std.specs.FinMap.{get}
 use Rattle.std.specs.List.{slice_get}

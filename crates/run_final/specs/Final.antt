@@ -1,4 +1,4 @@
--- What a run leaves on a drive that it sealed: docs/MODEL.md, "The final map".
+-- What a run leaves on a drive that it sealed: docs/MODEL.md, "Runs by turns".
 use Rattle.std.specs.Prelude.{◌≡◌, ◌⊎◌, ℕ, ◌≤◌, Bool, true, List, [], ◌∷◌, ◌++◌, length, Some, None}
 use Rattle.std.specs.FinMap.{get}
 use Rattle.bay_core.specs.declared.event.Event.{Event}
