@@ -15,6 +15,7 @@ use job_ends::{
 };
 use job_final::drives_end_final;
 use job_losses::{drops_have_causes, sound_jobs_complete};
+use job_pace::follows_windows;
 use job_reads::{read_back, read_once};
 use job_refusals::{refusals_are_by_the_maps, refusals_are_seen};
 use job_steps::jobs_keep_to_the_steps;
@@ -35,6 +36,7 @@ pub fn runs_keep_their_promises()
     no_call_must_fail();
     read_once();
     read_back();
+    follows_windows();
     counts_show_the_end();
     ends_give_lines_and_causes();
     all_sealed_only_at_zero();
