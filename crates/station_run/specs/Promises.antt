@@ -15,6 +15,7 @@ use Rattle.job_ends.specs.Counts.{EndCounts}
 use Rattle.job_ends.specs.Ends.{EndGives, ZeroWhere, FiveWhere}
 use Rattle.job_reads.specs.Backs.{ReadsBack}
 use Rattle.job_reads.specs.Reads.{ReadsOnce}
+use Rattle.job_changes.specs.Changes.{ChangesItsOwn}
 use Rattle.job_final.specs.Final.{IsFinal}
 use Rattle.job_refusals.specs.Mapped.{RefusesByMaps}
 use Rattle.job_refusals.specs.Sighted.{RefusesFirst, PassesUnrefused, ListsItsFiles}
@@ -35,6 +36,7 @@ pub record Promises (job : Job) (end : JobEnd) (result : ℕ) (old new : World) 
   pub fails_none : FailsNone (run_with job old new since)
   pub read_once : ReadsOnce (run_with job old new since)
   pub read_back : ReadsBack (run_with job old new since)
+  pub own : ChangesItsOwn (run_with job old new since)
   -- of the end
   pub gives : EndGives (run_with job old new since) end result
   pub zero : ZeroWhere (run_with job old new since) result

@@ -29,6 +29,7 @@ returns-clause-others c = λ words result old new run room asked is. elim (way r
             fails_none = c.no_call_must_fail.ensures asked end result old new past since told;
             read_once = c.read_once.ensures asked end result old new past since told;
             read_back = c.read_back.ensures asked end result old new past since told;
+            own = c.runs_change_their_own.ensures asked end result old new past since told;
             gives = c.ends_give_lines_and_causes.ensures asked end result old new past since told is.some is.least;
             zero = c.all_sealed_only_at_zero.ensures asked end result old new past since told is.some;
             five = c.lines_not_said_are_five.ensures asked end result old new past since told;
