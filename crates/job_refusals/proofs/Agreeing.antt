@@ -95,7 +95,7 @@ module _ (job : Job) (end : JobEnd) (result : ℕ) (old mid late new : World) (p
   abbrev call : Event
   call = SourceList 0 (Some l.card.0)
 
-  t : LookedIn l.scene l.card.0 c.opening
+  t : LookedIn l.scene came l.card.0 c.opening
   t = since_then (looked_told job came mid late l) (past ++ job_attaches job) c.opening c.was c.now
 
   calls : since ≡ job_attaches job ++ (call ∷ (t.looks ++ (t.asked ++ (t.ends ++ c.more))))

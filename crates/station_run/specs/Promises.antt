@@ -18,7 +18,7 @@ use Rattle.job_reads.specs.Reads.{ReadsOnce}
 use Rattle.job_changes.specs.Changes.{ChangesItsOwn}
 use Rattle.job_final.specs.Final.{IsFinal}
 use Rattle.job_refusals.specs.Mapped.{RefusesByMaps}
-use Rattle.job_refusals.specs.Sighted.{RefusesFirst, PassesUnrefused, ListsItsFiles}
+use Rattle.job_refusals.specs.Sighted.{RefusesFirst, CallsCardFirst, PassesUnrefused, ListsItsFiles}
 use Rattle.job_losses.specs.Complete.{Completes}
 
 -- Where the words are a job's and the calls are told, this holds of the run of that job with all calls since.
@@ -41,7 +41,8 @@ pub record Promises (job : Job) (end : JobEnd) (result : ℕ) (old new : World) 
   pub gives : EndGives (run_with job old new since) end result
   pub zero : ZeroWhere (run_with job old new since) result
   pub five : FiveWhere (run_with job old new since) result
-  pub refused : RefusesFirst (run_with job old new since) end
+  pub refused : RefusesFirst (run_with job old new since) end result
+  pub card_first : CallsCardFirst (run_with job old new since)
   pub passed : PassesUnrefused (run_with job old new since)
   pub listing : ListsItsFiles (run_with job old new since) end
   pub by_maps : RefusesByMaps (run_with job old new since) end

@@ -34,6 +34,7 @@ returns-clause-others c = λ words result old new run room asked is. elim (way r
             zero = c.all_sealed_only_at_zero.ensures asked end result old new past since told is.some;
             five = c.lines_not_said_are_five.ensures asked end result old new past since told;
             refused = c.refusals_are_seen.ensures.only asked end result old new past since told;
+            card_first = c.refusals_are_seen.ensures.card_first asked end result old new past since told;
             passed = c.refusals_are_seen.ensures.passed asked end result old new past since told;
             listing = c.refusals_are_seen.ensures.listing asked end result old new past since told;
             by_maps = c.refusals_are_by_the_maps.ensures asked end result old new past since told;
