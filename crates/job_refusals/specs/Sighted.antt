@@ -1,4 +1,4 @@
--- That a run is refused only rightly, by what its calls saw: docs/MODEL.md, "The opening of an offload".
+-- That a run is refused only with the first refusal by what its calls saw, and calls a drive only behind its card: docs/MODEL.md, "Laws of a run of a job".
 use Rattle.std.specs.Prelude.{◌≡◌, ◌≢◌, ℕ, ◌≤◌, true, List, [], ◌∷◌, ◌++◌, length, Contains, Some, None}
 use Rattle.bay_core.specs.declared.event.Event.{Event}
 use Rattle.bay_core.specs.declared.event.Event.TheVariants.{SourceList}
