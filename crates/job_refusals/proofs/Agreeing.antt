@@ -35,7 +35,7 @@ use Rattle.job_calls.proofs.Told.{since_then}
 use Rattle.job_losses.proofs.Attached.{attached_all}
 use Rattle.job_losses.proofs.Lines.{Lines, lines_none, lines_then}
 use Rattle.job_losses.proofs.Opened.{IsLooking, looked_lines}
-use Rattle.job_refusals.specs.Mapped.{IsDropped, IsSightByMap, IsSceneByMaps}
+use Rattle.job_refusals.specs.Mapped.{IsDroppedAloud, IsSightByMap, IsSceneByMaps}
 use Rattle.job_refusals.proofs.Comparing.{Agrees}
 use Rattle.job_refusals.proofs.Cutting.{OpenedRun}
 use Rattle.job_refusals.proofs.Firsts.{IsQuiet, attaches_attach, attaches_quiet, lines_quiet, quiet_untouched, quiet_unlisted, each_append, each_on, none_such, first_one}
@@ -95,7 +95,7 @@ module _ (job : Job) (end : JobEnd) (result : ℕ) (old mid late new : World) (p
   abbrev call : Event
   call = SourceList 0 (Some l.card.0)
 
-  t : LookedIn l.scene l.card.0 c.opening
+  t : LookedIn l.scene came l.card.0 c.opening
   t = since_then (looked_told job came mid late l) (past ++ job_attaches job) c.opening c.was c.now
 
   calls : since ≡ job_attaches job ++ (call ∷ (t.looks ++ (t.asked ++ (t.ends ++ c.more))))
@@ -214,7 +214,7 @@ module _ (job : Job) (end : JobEnd) (result : ℕ) (old mid late new : World) (p
   -- ---- the drives
 
   -- a drive that was dropped was so by the lines
-  dropped_there : (d : ℕ) → slice_get sights d ≡ Some Dropped → IsDropped d m.opening
+  dropped_there : (d : ℕ) → slice_get sights d ≡ Some Dropped → IsDroppedAloud d m.opening
   dropped_there d at =
       let said = dropped_said sights 0 t.looks t.sights d d (omega arith) at in
       let is : m.opening ≡ job_attaches job ++ ((call ∷ said.0) ++ Say (dropped_fault_text d) true ∷ (said.1 ++ reached.rest)) =
@@ -223,7 +223,7 @@ module _ (job : Job) (end : JobEnd) (result : ℕ) (old mid late new : World) (p
       (job_attaches job ++ (call ∷ said.0), said.1 ++ reached.rest, is ∙ sym (append_assoc (job_attaches job) (call ∷ said.0) (Say (dropped_fault_text d) true ∷ (said.1 ++ reached.rest))))
 
   -- and no other
-  found_not : (d : ℕ) (size : List ℕ → Option ℕ) (found : JournalFound) → slice_get sights d ≡ Some (Found size found) → IsDropped d m.opening → ⊥
+  found_not : (d : ℕ) (size : List ℕ → Option ℕ) (found : JournalFound) → slice_get sights d ≡ Some (Found size found) → IsDroppedAloud d m.opening → ⊥
   found_not d size found at dropped =
       let within = slice_get_within sights d (Found size found) at in
       let most = l.few in

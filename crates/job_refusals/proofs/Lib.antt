@@ -2,6 +2,7 @@ pub mod Firsts
 pub mod Looking
 pub mod Scenes
 pub mod Refusing
+pub mod Ahead
 pub mod Steadying
 pub mod Comparing
 pub mod Cutting

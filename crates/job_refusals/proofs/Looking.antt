@@ -28,7 +28,7 @@ use Rattle.job_story.specs.Run.{Run, run_with}
 use Rattle.job_calls.proofs.Opening.{found_at}
 use Rattle.job_losses.proofs.Lines.{Lines, last_lines}
 use Rattle.job_losses.proofs.Opened.{IsLooking}
-use Rattle.job_refusals.specs.Mapped.{IsDropped}
+use Rattle.job_refusals.specs.Mapped.{IsDroppedAloud}
 
 -- ---- the devices
 
@@ -70,7 +70,7 @@ ends_looking d (Err e) L t = end_looking d e L t
 -- ---- the lines
 
 -- a drive that was dropped has its line among the looks
-pub dropped_said : (xs : List Sight) (d : ℕ) (L : List Event) → SightsCalls d xs L → (k n : ℕ) → n ≡ d + k → slice_get xs k ≡ Some Dropped → IsDropped n L
+pub dropped_said : (xs : List Sight) (d : ℕ) (L : List Event) → SightsCalls d xs L → (k n : ℕ) → n ≡ d + k → slice_get xs k ≡ Some Dropped → IsDroppedAloud n L
 unfolding SightsCalls
 dropped_said [] d L t k n number at = let none : List Sight = [] in let within = slice_get_within none k Dropped at in absurd (omega (arith, within))
 dropped_said (x ∷ xs) d L t zero n number at = (said.0, t.second, t.is ∙ ap (λ (l : List Event). l ++ t.second) said.1 ∙ append_assoc said.0 (Say (dropped_fault_text n) true ∷ []) t.second)

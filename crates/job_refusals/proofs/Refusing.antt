@@ -1,8 +1,9 @@
 -- A run is refused only with the first refusal by what its calls saw, and it changes a drive only where nothing refuses it.
-use Rattle.std.proofs.Common.{◌≡◌, ◌≢◌, inl, inr, ℕ, zero, suc, true, List, ◌++◌, length, refl, sym, ap, ◌∙◌, subst}
+use Rattle.std.proofs.Common.{◌≡◌, ◌≢◌, inl, inr, ℕ, zero, suc, ◌+◌, true, List, [], ◌∷◌, ◌++◌, length, refl, sym, ap, ◌∙◌, subst}
 use Rattle.std.specs.Prelude.{Contains, Some, Result, Ok, Err}
 use Rattle.std.proofs.lemmas.Bool.{false≢true}
 use Rattle.bay_core.specs.declared.event.Event.{Event}
+use Rattle.bay_core.specs.declared.event.Event.TheVariants.{SourceList}
 use Rattle.bay_core.specs.declared.event.FileInfo.{FileInfo}
 use Rattle.bay_core.specs.Looks.{IsUntouched, is_effect}
 use Rattle.bay_core.specs.World.{World}
@@ -14,13 +15,14 @@ use Rattle.card_inventory.specs.Card.{IsListed as CardListed, CardGives}
 use Rattle.drive_journal.specs.declared.order.Order.{Order}
 use Rattle.fresh_opening.specs.declared.error.FreshError.{FreshError}
 use Rattle.fresh_opening.specs.declared.error.FreshError.TheVariants.{Inventory, NotAJournal, AlreadyBegun, NoDrive, Clash, Occupied, OutFailed as LineFailed, Memory}
-use Rattle.fresh_opening.specs.Openings.{FreshOpens, FreshLooks}
+use Rattle.fresh_opening.specs.Openings.{FreshOpens, FreshLooks, EndsWith}
 use Rattle.run_state.specs.declared.outcome.Outcome.{Outcome}
 use Rattle.run_state.specs.declared.outcome.Outcome.TheVariants.{Going, Finished, NoDrive as NoneLeft, SourceFailed as CardLost, Changed, Altered, OutFailed as LineLost}
 use Rattle.run_state.specs.State.{At}
 use Rattle.offload_run.specs.Offload.{ordered_of, stands_at}
+use Rattle.last_lines.specs.Ends.{EndCalls}
 use Rattle.command_words.specs.Jobs.{Job}
-use Rattle.job_story.specs.Ends.{JobEnd, Refused, listing_end, opening_end}
+use Rattle.job_story.specs.Ends.{JobEnd, Refused, last_of, listing_end, opening_end}
 use Rattle.job_story.specs.Run.{Run, run_with}
 use Rattle.job_story.specs.Story.{asked_by, EndsAs}
 use Rattle.job_calls.specs.Calls.{job_attaches, unattached_end}
@@ -30,7 +32,7 @@ use Rattle.job_calls.proofs.Told.{tells_went, tells_such, since_then}
 use Rattle.job_refusals.specs.First.{RefusesListing, IsFirstRefusal}
 use Rattle.job_refusals.specs.Sighted.{ComesTo, IsRefusedBySight, IsFreeBySight, RefusesFirst, PassesUnrefused}
 use Rattle.job_refusals.proofs.Firsts.{attaches_quiet, lines_quiet, halted_quiet, quiet_untouched, untouched_at}
-use Rattle.job_refusals.proofs.Scenes.{looked_told, scene_seen, bare_scene, bare_seen}
+use Rattle.job_refusals.proofs.Scenes.{looked_told, scene_seen, scene_rest, bare_scene, bare_seen, bare_rest}
 
 -- ---- which ends are refusals
 
@@ -104,44 +106,56 @@ module _ (job : Job) (end : JobEnd) (result : ℕ) (past since : List Event) (ol
       (untouched_append opening last o.untouched (quiet_untouched last (lines_quiet last lasts.on))))
 
   module _ (mid late : World) (opening last : List Event) (was : mid.events ≡ Some (past ++ job_attaches job)) (now : late.events ≡ Some ((past ++ job_attaches job) ++ opening)) (is : since ≡ job_attaches job ++ (opening ++ last)) (untouched : IsUntouched since) where
-    looked_so : (e : FreshError) → (l : FreshLooks 0 (length job.drives) job.copies (asked_by job.task) (Err e) mid late) → ComesTo (length job.drives) l.scene e → IsFirstRefusal l.card.0 l.scene e → IsRefusedBySight run e
-    looked_so e l comes first = record {
-      listed = l.card.0;
-      scene = l.scene;
-      is = scene_seen job (Err e) mid late l old new since opening last is (since_then (looked_told job (Err e) mid late l) (past ++ job_attaches job) opening was now);
-      comes = comes;
-      first = first;
-      untouched = untouched;
-    }
+    -- the last lines of a run that was refused so
+    abbrev Says : FreshError → List Event → Type 0
+    Says e L = EndCalls (last_of (Refused e)) result L
 
-    unlisted_so : (e : InventoryError) → CardRefused e mid late → IsRefusedBySight run (Inventory e)
-    unlisted_so e r = record {
-      listed = r.listed;
-      scene = bare_scene;
-      is = bare_seen job old new r.listed since opening last is (since_then (tells_such (λ L both. both.1) (tells_went r.is.called.went)) (past ++ job_attaches job) opening was now);
-      comes = (refl, refl);
-      first = r.refuses;
-      untouched = untouched;
-    }
+    looked_so : (e : FreshError) → Says e last → (l : FreshLooks 0 (length job.drives) job.copies (asked_by job.task) (Err e) mid late) → ComesTo (length job.drives) l.scene e → IsFirstRefusal l.card.0 l.scene e
+        → ((L : List Event) → EndsWith (l.scene.first + length l.scene.sights) (Err e) L → L ≡ []) → IsRefusedBySight run e result
+    looked_so e said l comes first none =
+        let t = since_then (looked_told job (Err e) mid late l) (past ++ job_attaches job) opening was now in
+        record {
+          listed = l.card.0;
+          scene = l.scene;
+          is = scene_seen job (Err e) mid late l old new since opening last is t;
+          comes = comes;
+          first = first;
+          last = subst (Says e) (sym (scene_rest job (Err e) mid late l old new since opening last is t ∙ ap (λ (k : List Event). k ++ last) (none t.ends t.ended))) said;
+          untouched = untouched;
+        }
 
-    refused_so : (e : FreshError) → opening_end e ≡ Refused e → FreshOpens 0 (length job.drives) job.copies (asked_by job.task) (Err e) mid late → IsRefusedBySight run e
-    refused_so (Inventory e) ends o = unlisted_so e (card_refused e mid late (not_failed e ends) o.0 o.1)
-    refused_so (NotAJournal d at) ends o = looked_so (NotAJournal d at) o o.answer.0 ((o.files, o.card.2), o.answer.1)
-    refused_so (AlreadyBegun d) ends o = looked_so (AlreadyBegun d) o o.answer.0 ((o.files, o.card.2), o.answer.1)
-    refused_so (Clash list path) ends o = looked_so (Clash list path) o o.answer.0 ((o.files, o.card.2), o.answer.1)
-    refused_so (Occupied d path) ends o = looked_so (Occupied d path) o o.answer.0 ((o.files, o.card.2), o.answer.1)
-    refused_so NoDrive ends o = absurd (cc ends)
-    refused_so LineFailed ends o = absurd (cc ends)
-    refused_so Memory ends o = absurd (cc ends)
+    unlisted_so : (e : InventoryError) → Says (Inventory e) last → CardRefused e mid late → IsRefusedBySight run (Inventory e) result
+    unlisted_so e said r =
+        let one : opening ≡ SourceList 0 (Some r.listed) ∷ [] = since_then (tells_such (λ L both. both.1) (tells_went r.is.called.went)) (past ++ job_attaches job) opening was now in
+        record {
+          listed = r.listed;
+          scene = bare_scene;
+          is = bare_seen job old new r.listed since opening last is one;
+          comes = (refl, refl);
+          first = r.refuses;
+          last = subst (Says (Inventory e)) (sym (bare_rest job old new r.listed since opening last is one)) said;
+          untouched = untouched;
+        }
 
-  pub refuses_first : Parts job end result past since old new → RefusesFirst run end
+    refused_so : (e : FreshError) → opening_end e ≡ Refused e → Says e last → FreshOpens 0 (length job.drives) job.copies (asked_by job.task) (Err e) mid late → IsRefusedBySight run e result
+    refused_so (Inventory e) ends said o = unlisted_so e said (card_refused e mid late (not_failed e ends) o.0 o.1)
+    refused_so (NotAJournal d at) ends said o = looked_so (NotAJournal d at) said o o.answer.0 ((o.files, o.card.2), o.answer.1) (λ L none. none)
+    refused_so (AlreadyBegun d) ends said o = looked_so (AlreadyBegun d) said o o.answer.0 ((o.files, o.card.2), o.answer.1) (λ L none. none)
+    refused_so (Clash list path) ends said o = looked_so (Clash list path) said o o.answer.0 ((o.files, o.card.2), o.answer.1) (λ L none. none)
+    refused_so (Occupied d path) ends said o = looked_so (Occupied d path) said o o.answer.0 ((o.files, o.card.2), o.answer.1) (λ L none. none)
+    refused_so NoDrive ends said o = absurd (cc ends)
+    refused_so LineFailed ends said o = absurd (cc ends)
+    refused_so Memory ends said o = absurd (cc ends)
+
+  pub refuses_first : Parts job end result past since old new → RefusesFirst run end result
   refuses_first (halted s there) e is = absurd (unattached_not s.n e (sym s.ends ∙ is))
   refuses_first (opened (Ok order) mid late opening last ends b o lasts same calls) e is = absurd (cc (sym ends ∙ is))
   refuses_first (opened (Err f) mid late opening last ends b o lasts same calls) e is =
       let by : opening_end f ≡ Refused e = sym ends ∙ is in
       let one : f ≡ e = refused_by f e by in
-      let so : IsRefusedBySight run f = refused_so mid late opening last o.was o.now calls (opening_untouched (Err f) mid late opening last o lasts calls) f (by ∙ ap Refused (sym one)) o.opens.opens in
-      subst (λ (x : FreshError). IsRefusedBySight run x) one so
+      let said : EndCalls (last_of (Refused f)) result last = subst (λ (x : JobEnd). EndCalls (last_of x) result last) (is ∙ ap Refused (sym one)) lasts.calls in
+      let so : IsRefusedBySight run f result = refused_so mid late opening last o.was o.now calls (opening_untouched (Err f) mid late opening last o lasts calls) f (by ∙ ap Refused (sym one)) said o.opens.opens in
+      subst (λ (x : FreshError). IsRefusedBySight run x result) one so
   refuses_first (ran order mid late done opening turning last b o t lasts same calls) e is =
       absurd (turned_not (length job.drives) (ordered_of t.turns.run).plan (stands_at t.turns.then_run) (stands_at t.turns.then_run).outcome end e t.turns.ends is)
 

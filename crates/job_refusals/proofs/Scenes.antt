@@ -21,7 +21,7 @@ use Rattle.job_refusals.specs.Sighted.{IsSceneBySight}
 use Rattle.job_refusals.proofs.Looking.{sights_looking, ends_looking}
 
 -- the calls of an opening that looked at its drives: the listing of the card, the looks, the moment, and what ended them
-pub record LookedIn (s : Scene) (listed : List FileInfo) (L : List Event) : Type 0 where
+pub record LookedIn (s : Scene) (came : Result Order FreshError) (listed : List FileInfo) (L : List Event) : Type 0 where
   pub looks : List Event
   pub asked : List Event
   pub ends : List Event
@@ -29,13 +29,14 @@ pub record LookedIn (s : Scene) (listed : List FileInfo) (L : List Event) : Type
   pub sights : SightsCalls 0 s.sights looks
   pub moment : AsksMoment s.plan asked
   pub on : AllOn IsLooking looks
+  pub ended : EndsWith (s.first + length s.sights) came ends
   pub behind : AllOn IsLooking ends
 
 module _ (job : Job) (came : Result Order FreshError) (mid late : World) (l : FreshLooks 0 (length job.drives) job.copies (asked_by job.task) came mid late) where
   abbrev Calls : List Event → Type 0
   Calls L = Then (IsCall (SourceList 0 (Some l.card.0))) (Then (SightsCalls l.scene.first l.scene.sights) (Then (AsksMoment l.scene.plan) (EndsWith (l.scene.first + length l.scene.sights) came))) L
 
-  looked_in : (L : List Event) → Calls L → LookedIn l.scene l.card.0 L
+  looked_in : (L : List Event) → Calls L → LookedIn l.scene came l.card.0 L
   looked_in L t = record {
     looks = t.there.first;
     asked = t.there.there.first;
@@ -46,18 +47,19 @@ module _ (job : Job) (came : Result Order FreshError) (mid late : World) (l : Fr
     sights = subst (λ (n : ℕ). SightsCalls n l.scene.sights t.there.first) l.from t.there.here;
     moment = t.there.there.here;
     on = sights_looking l.scene.sights l.scene.first t.there.first t.there.here;
+    ended = t.there.there.there;
     behind = ends_looking (l.scene.first + length l.scene.sights) came t.there.there.second t.there.there.there;
   }
 
-  pub looked_told : Tells (LookedIn l.scene l.card.0) mid late
+  pub looked_told : Tells (LookedIn l.scene came l.card.0) mid late
   looked_told = tells_such looked_in (tells_then (tells_such (λ L both. both.1) (tells_went l.card.1.called.went)) (tells_such (λ L both. both.1) (tells_went l.went)))
 
-  pub calls_seen : (since opening more : List Event) → since ≡ job_attaches job ++ (opening ++ more) → (t : LookedIn l.scene l.card.0 opening) → since ≡ job_attaches job ++ (SourceList 0 (Some l.card.0) ∷ (t.looks ++ (t.asked ++ (t.ends ++ more))))
+  pub calls_seen : (since opening more : List Event) → since ≡ job_attaches job ++ (opening ++ more) → (t : LookedIn l.scene came l.card.0 opening) → since ≡ job_attaches job ++ (SourceList 0 (Some l.card.0) ∷ (t.looks ++ (t.asked ++ (t.ends ++ more))))
   calls_seen since opening more is t =
       is ∙ ap (λ (k : List Event). job_attaches job ++ (k ++ more)) t.is
       ∙ ap (λ (k : List Event). job_attaches job ++ (SourceList 0 (Some l.card.0) ∷ k)) (append_assoc t.looks (t.asked ++ t.ends) more ∙ ap (λ (k : List Event). t.looks ++ k) (append_assoc t.asked t.ends more))
 
-  pub scene_seen : (old new : World) (since opening more : List Event) → since ≡ job_attaches job ++ (opening ++ more) → LookedIn l.scene l.card.0 opening → IsSceneBySight (run_with job old new since) l.card.0 l.scene
+  pub scene_seen : (old new : World) (since opening more : List Event) → since ≡ job_attaches job ++ (opening ++ more) → LookedIn l.scene came l.card.0 opening → IsSceneBySight (run_with job old new since) l.card.0 l.scene
   scene_seen old new since opening more is t = record {
     looks = t.looks;
     asked = t.asked;
@@ -70,6 +72,11 @@ module _ (job : Job) (came : Result Order FreshError) (mid late : World) (l : Fr
     late = λ p planned. ((l.drafted p planned).whole, (l.drafted p planned).none_before);
     moment = t.moment;
   }
+
+  -- what is behind it
+  pub scene_rest : (old new : World) (since opening more : List Event) (is : since ≡ job_attaches job ++ (opening ++ more)) (t : LookedIn l.scene came l.card.0 opening) → (scene_seen old new since opening more is t).rest ≡ t.ends ++ more
+  unfolding scene_seen
+  scene_rest old new since opening more is t = refl
 
 -- ---- a card without an inventory
 
@@ -94,3 +101,7 @@ bare_seen job old new listed since opening more is one = record {
   late = λ p planned. absurd (cc planned);
   moment = refl;
 }
+
+pub bare_rest : (job : Job) (old new : World) (listed : List FileInfo) (since opening more : List Event) (is : since ≡ job_attaches job ++ (opening ++ more)) (one : opening ≡ SourceList 0 (Some listed) ∷ []) → (bare_seen job old new listed since opening more is one).rest ≡ more
+unfolding bare_seen
+bare_rest job old new listed since opening more is one = refl

@@ -1,4 +1,4 @@
--- That a run is refused exactly rightly, by the maps of its drives: docs/FORMATS.md, "The opening of an offload".
+-- When a run is refused, by the listing of its card and the maps of its drives: docs/FORMATS.md, "The opening of an offload".
 use Rattle.std.specs.Prelude.{◌≡◌, ◌⊎◌, ℕ, ◌<◌, ◌≤◌, true, List, [], ◌∷◌, ◌++◌, length, Some}
 use Rattle.std.specs.List.{slice_get, AllByRecursion}
 use Rattle.bay_core.specs.declared.event.Event.{Event}
@@ -27,15 +27,15 @@ pub record IsOpening (run : Run) (L : List Event) : Type 0 where
   pub unasked : AllByRecursion (λ e. IsMomentCall e → ⊥) L
   pub ends : (rest ≡ []) ⊎ ((t : ℕ) × (more : List Event) × (rest ≡ Moment t ∷ more))
 
--- drive d was dropped among these calls, and that was heard
-abbrev pub IsDropped : ℕ → List Event → Type 0
-IsDropped d L = (before : List Event) × (after : List Event) × (L ≡ before ++ Say (dropped_fault_text d) true ∷ after)
+-- that drive d is dropped by a fault is said among these calls, and was heard
+abbrev pub IsDroppedAloud : ℕ → List Event → Type 0
+IsDroppedAloud d L = (before : List Event) × (after : List Event) × (L ≡ before ++ Say (dropped_fault_text d) true ∷ after)
 
--- what there is to see of drive d: nothing where the opening dropped it; else it is honest, and that is what its map has, with which it was attached
+-- what there is to see of drive d: nothing where the opening said that it is dropped; else it is honest, and that is what the map has with which it was attached
 abbrev pub IsSightByMap : Run → List Event → ℕ → Sight → Type 0
-IsSightByMap run opening d x = (IsDropped d opening × (x ≡ Dropped)) ⊎ ((IsDropped d opening → ⊥) × (start : Map) × IsHonest run d start × (x ≡ sight_of start))
+IsSightByMap run opening d x = (IsDroppedAloud d opening × (x ≡ Dropped)) ⊎ ((IsDroppedAloud d opening → ⊥) × (start : Map) × IsHonest run d start × (x ≡ sight_of start))
 
--- What there is to see of all drives of the words, each of them honest or dropped, and, where the card has an inventory, the plan: of its listing, and from the first
+-- What there is to see of all drives of the words, each of them honest or said to be dropped, and, where the card has an inventory, the plan: of its listing, and from the first
 -- moment on that was asked, if one was.
 pub record IsSceneByMaps (run : Run) (listed : List FileInfo) (s : Scene) : Type 0 where
   pub opening : List Event
@@ -54,7 +54,7 @@ abbrev pub IsBehindCard : FreshError → Type 0
 IsBehindCard (Inventory e) = ⊥
 IsBehindCard _ = Unit {0}
 
--- a drive whose place is not behind that of the refusal was lost, and its line was not said; both counts rose
+-- the count of a drive whose place is not behind that of the refusal rose in the run, and so did that of the output
 pub record IsUnheard (run : Run) (e : FreshError) : Type 0 where
   pub d : ℕ
   pub within : d < length run.job.drives

@@ -1,10 +1,11 @@
--- That a run is refused only rightly, by what its calls saw: docs/MODEL.md, "The opening of an offload".
+-- That a run is refused only with the first refusal by what its calls saw, and calls a drive only behind its card: docs/MODEL.md, "Laws of a run of a job".
 use Rattle.std.specs.Prelude.{◌≡◌, ◌≢◌, ℕ, ◌≤◌, true, List, [], ◌∷◌, ◌++◌, length, Contains, Some, None}
 use Rattle.bay_core.specs.declared.event.Event.{Event}
 use Rattle.bay_core.specs.declared.event.Event.TheVariants.{SourceList}
 use Rattle.bay_core.specs.declared.event.FileInfo.{FileInfo}
 use Rattle.bay_core.specs.Looks.{IsUntouched, is_effect}
 use Rattle.bay_core.specs.Map.{Map, Dates, Lists}
+use Rattle.bay_core.specs.Replay.{Drive, device_of}
 use Rattle.copy_plan.specs.Plan.{PlanValue}
 use Rattle.fresh_opening.specs.declared.error.FreshError.{FreshError}
 use Rattle.fresh_opening.specs.declared.error.FreshError.TheVariants.{Inventory}
@@ -12,11 +13,12 @@ use Rattle.fresh_opening.specs.Looks.{Reaches}
 use Rattle.fresh_opening.specs.Openings.{AsksMoment}
 use Rattle.fresh_opening.specs.Refusals.{Scene, NoneBefore}
 use Rattle.fresh_opening.specs.Sights.{SightsCalls}
-use Rattle.job_story.specs.Ends.{JobEnd, Refused, NoMemory}
+use Rattle.last_lines.specs.Ends.{EndCalls}
+use Rattle.job_story.specs.Ends.{JobEnd, Refused, NoMemory, last_of}
 use Rattle.job_story.specs.Plans.{IsListed}
 use Rattle.job_story.specs.Run.{Run, IsSteady}
 use Rattle.job_calls.specs.Calls.{job_attaches}
-use Rattle.job_refusals.specs.First.{IsDraft, IsFirstRefusal, NothingRefuses}
+use Rattle.job_refusals.specs.First.{IsDraft, HasInventory, IsFirstRefusal, NothingRefuses}
 
 -- ---- what the calls saw
 
@@ -40,13 +42,15 @@ abbrev pub ComesTo : ℕ → Scene → FreshError → Type 0
 ComesTo count s (Inventory e) = (s.sights ≡ []) × (s.plan ≡ None)
 ComesTo count s e = Reaches count s e
 
--- by what its first calls saw this is the first refusal, and no call may have changed or settled a drive
-pub record IsRefusedBySight (run : Run) (e : FreshError) : Type 0 where
+-- By what its first calls saw this is the first refusal; behind them come the lines of that refusal, as far as they could be said, and no other call; and no call may have
+-- changed or settled a drive.
+pub record IsRefusedBySight (run : Run) (e : FreshError) (result : ℕ) : Type 0 where
   pub listed : List FileInfo
   pub scene : Scene
   pub is : IsSceneBySight run listed scene
   pub comes : ComesTo (length run.job.drives) scene e
   pub first : IsFirstRefusal listed scene e
+  pub last : EndCalls (last_of (Refused e)) result is.rest
   pub untouched : IsUntouched run.events
 
 -- by what its first calls saw of all its drives, with its plan, nothing refuses it
@@ -61,9 +65,13 @@ pub record IsFreeBySight (run : Run) : Type 0 where
 
 -- ---- what a run does by that
 
--- it is refused only with the first refusal
-abbrev pub RefusesFirst : Run → JobEnd → Type 0
-RefusesFirst run end = (e : FreshError) → end ≡ Refused e → IsRefusedBySight run e
+-- it is refused only with the first refusal, and then makes no other call
+abbrev pub RefusesFirst : Run → JobEnd → ℕ → Type 0
+RefusesFirst run end result = (e : FreshError) → end ≡ Refused e → IsRefusedBySight run e result
+
+-- it calls a drive only behind the first listing that its card gave, which has an inventory
+abbrev pub CallsCardFirst : Run → Type 0
+CallsCardFirst run = (before after : List Event) (e : Event) (d : ℕ) → run.events ≡ before ++ e ∷ after → device_of e ≡ Drive d → (listed : List FileInfo) × IsListed before listed × HasInventory listed
 
 -- it makes a call that may change or settle a drive, done or not, only where nothing refuses it
 abbrev pub PassesUnrefused : Run → Type 0

@@ -11,19 +11,23 @@ ghost use Rattle.job_story.specs.Run.{run_with};
 ghost use Rattle.job_calls.specs.Told.{RanTold};
 ghost use Rattle.job_refusals.specs.First.{IsFirstRefusal, NothingRefuses};
 ghost use Rattle.job_refusals.specs.Mapped.{RefusesByMaps};
-ghost use Rattle.job_refusals.specs.Sighted.{RefusesFirst, PassesUnrefused, ListsItsFiles};
+ghost use Rattle.job_refusals.specs.Sighted.{RefusesFirst, CallsCardFirst, PassesUnrefused, ListsItsFiles};
 
 use run_calls::calls_are_its_own;
 
 /// A run of a job is refused only with the first refusal that applies by what its calls saw: the attaches, then the listing of the
-/// card, then the looks at its drives from the first on, up to the one that is refused, then the moment of its plan. A refused run
-/// makes no call that may change or settle a drive.
+/// card, then the looks at its drives from the first on, up to the one that is refused, then the moment of its plan. Behind these
+/// come the lines of the refusal, as far as they could be said, and no other call; so a refused run makes no call that may change
+/// or settle a drive.
+///
+/// Each run calls a drive only behind the listing of its card, where that has an inventory.
 ///
 /// A run makes such a call only where, by what it saw of all its drives, with its plan, no refusal applies.
 ///
 /// What a steady card listed are its files, in each run that did not end for want of memory.
 pub fn refusals_are_seen()
-    ensures only { (job : Job) (end : JobEnd) (result : ℕ) (old new : World) (past since : List Event) → RanTold job end result old new past since → RefusesFirst (run_with job old new since) end }
+    ensures only { (job : Job) (end : JobEnd) (result : ℕ) (old new : World) (past since : List Event) → RanTold job end result old new past since → RefusesFirst (run_with job old new since) end result }
+    ensures card_first { (job : Job) (end : JobEnd) (result : ℕ) (old new : World) (past since : List Event) → RanTold job end result old new past since → CallsCardFirst (run_with job old new since) }
     ensures passed { (job : Job) (end : JobEnd) (result : ℕ) (old new : World) (past since : List Event) → RanTold job end result old new past since → PassesUnrefused (run_with job old new since) }
     ensures listing { (job : Job) (end : JobEnd) (result : ℕ) (old new : World) (past since : List Event) → RanTold job end result old new past since → ListsItsFiles (run_with job old new since) end }
 {

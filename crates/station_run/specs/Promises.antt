@@ -16,9 +16,10 @@ use Rattle.job_ends.specs.Ends.{EndGives, ZeroWhere, FiveWhere}
 use Rattle.job_reads.specs.Backs.{ReadsBack}
 use Rattle.job_reads.specs.Reads.{ReadsOnce}
 use Rattle.job_pace.specs.Pace.{FollowsWindows}
+use Rattle.job_changes.specs.Changes.{ChangesItsOwn}
 use Rattle.job_final.specs.Final.{IsFinal}
 use Rattle.job_refusals.specs.Mapped.{RefusesByMaps}
-use Rattle.job_refusals.specs.Sighted.{RefusesFirst, PassesUnrefused, ListsItsFiles}
+use Rattle.job_refusals.specs.Sighted.{RefusesFirst, CallsCardFirst, PassesUnrefused, ListsItsFiles}
 use Rattle.job_losses.specs.Complete.{Completes}
 
 -- Where the words are a job's and the calls are told, this holds of the run of that job with all calls since.
@@ -37,11 +38,13 @@ pub record Promises (job : Job) (end : JobEnd) (result : ℕ) (old new : World) 
   pub read_once : ReadsOnce (run_with job old new since)
   pub read_back : ReadsBack (run_with job old new since)
   pub pace : FollowsWindows (run_with job old new since)
+  pub own : ChangesItsOwn (run_with job old new since)
   -- of the end
   pub gives : EndGives (run_with job old new since) end result
   pub zero : ZeroWhere (run_with job old new since) result
   pub five : FiveWhere (run_with job old new since) result
-  pub refused : RefusesFirst (run_with job old new since) end
+  pub refused : RefusesFirst (run_with job old new since) end result
+  pub card_first : CallsCardFirst (run_with job old new since)
   pub passed : PassesUnrefused (run_with job old new since)
   pub listing : ListsItsFiles (run_with job old new since) end
   pub by_maps : RefusesByMaps (run_with job old new since) end

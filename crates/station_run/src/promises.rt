@@ -9,6 +9,7 @@ ghost use Rattle.station_run.specs.Station.{HasRoom, Ran};
 use job_calls::{
     no_call_follows_a_failure, no_call_must_fail, runs_attach_their_folders, runs_call_their_own,
 };
+use job_changes::runs_change_their_own;
 use job_ends::{
     all_sealed_only_at_zero, counts_show_the_end, ends_give_lines_and_causes,
     lines_not_said_are_five,
@@ -37,6 +38,7 @@ pub fn runs_keep_their_promises()
     read_once();
     read_back();
     follows_windows();
+    runs_change_their_own();
     counts_show_the_end();
     ends_give_lines_and_causes();
     all_sealed_only_at_zero();
